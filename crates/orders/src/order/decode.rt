@@ -1,0 +1,207 @@
+// An order from its bytes.
+ghost use mathlib.Core.Path.{_≡_};
+ghost use mathlib.Core.Bool.{true};
+ghost use Prim.Native.Nat.{_≤_};
+ghost use lib.ListN.{length, take};
+ghost use Rattle.std.specs.Options.{mapped, Cases as BySome};
+ghost use Rattle.std.specs.declared.option.Option.the-variants.{Some, None};
+ghost use Rattle.std.specs.Results.{Cases, okPart};
+ghost use Rattle.orders.specs.Contents.{contentsOf};
+ghost use Rattle.orders.specs.Refusals.{numberOf};
+ghost use Rattle.orders.specs.Codec.{encoded, decoded, listIn, keyIn, codeIn, ofKind, anyIn};
+use super::KeySet;
+use super::Order;
+use super::parts::blank;
+use super::parts::suits;
+use crate::instruction::Instruction;
+use crate::refusal::Refusal;
+
+impl Order {
+    // The order that the bytes encode, refused where they encode none.
+    pub fn decode(bytes: &[u8]) -> Result<Order, Refusal>
+        ensures finds { λ r. ⌜ decoded (now (bytes .entry)) ≡ mapped contentsOf (okPart r) ⌝ }
+        ensures encodes { λ r. ⌜ Cases r (λ o. encoded (contentsOf o) ≡ now (bytes .entry)) (λ e. (numberOf e ≡ 1) × ((o : Order) → encoded (contentsOf o) ≡ now (bytes .entry) → ⊥)) ⌝ }
+    {
+        let mut keys = [0; 16];
+        let Some((count, rest)) = read_keys(bytes, &mut keys) else {
+            return Err(Refusal::Malformed);
+        };
+        let Some(reads) = KeySet::new(&keys[0..count]) else {
+            return Err(Refusal::Malformed);
+        };
+        let Some((count, rest)) = read_keys(rest, &mut keys) else {
+            return Err(Refusal::Malformed);
+        };
+        let Some(writes) = KeySet::new(&keys[0..count]) else {
+            return Err(Refusal::Malformed);
+        };
+        let mut code = blank();
+        let Some((len, rest)) = read_code(rest, writes.as_slice().len(), &mut code) else {
+            return Err(Refusal::Malformed);
+        };
+        if !rest.is_empty() {
+            return Err(Refusal::Malformed);
+        }
+        Ok(Order {
+            reads,
+            writes,
+            code,
+            len,
+        })
+    }
+}
+
+// Reads at most sixteen keys behind their count: how many they are, and the bytes that follow.
+fn read_keys<'a>(bytes: &'a [u8], keys: &mut [u16; 16]) -> Option<(usize, &'a [u8])>
+    ensures { λ r. ⌜ BySome r (listIn 16 keyIn (now (bytes .entry)) ≡ None) (λ p. (p .0 ≤ 16) × (listIn 16 keyIn (now (bytes .entry)) ≡ Some (take (p .0) (now (keys .exit)), now (p .1)))) ⌝ }
+{
+    let [count, rest @ ..] = bytes else {
+        return None;
+    };
+    let len = usize::from(*count);
+    if len > 16 {
+        return None;
+    }
+    let mut rest = rest;
+    for i in 0..len {
+        let [high, low, after @ ..] = rest else {
+            return None;
+        };
+        keys[i] = u16::from_be_bytes([*high, *low]);
+        rest = after;
+    }
+    Some((len, rest))
+}
+
+// Reads at most sixty-four instructions behind their count, for a write set of so many keys.
+fn read_code<'a>(
+    bytes: &'a [u8],
+    writes: usize,
+    code: &mut [Instruction; 64],
+) -> Option<(usize, &'a [u8])>
+    ensures { λ r. ⌜ BySome r (codeIn writes (now (bytes .entry)) ≡ None) (λ p. (p .0 ≤ 64) × (codeIn writes (now (bytes .entry)) ≡ Some (take (p .0) (now (code .exit)), now (p .1)))) ⌝ }
+{
+    let [count, rest @ ..] = bytes else {
+        return None;
+    };
+    let len = usize::from(*count);
+    if len > 64 {
+        return None;
+    }
+    let mut rest = rest;
+    for i in 0..len {
+        let Some((instruction, after)) = read_instruction(rest) else {
+            return None;
+        };
+        if !suits(instruction, writes) {
+            return None;
+        }
+        code[i] = instruction;
+        rest = after;
+    }
+    Some((len, rest))
+}
+
+// The instruction at the front of the bytes, whatever its registers, and the bytes that follow.
+fn read_instruction(bytes: &[u8]) -> Option<(Instruction, &[u8])>
+    ensures { λ r. ⌜ mapped (λ p. (p .0, now (p .1))) r ≡ anyIn (now (bytes .entry)) ⌝ }
+{
+    let [kind, rest @ ..] = bytes else {
+        return None;
+    };
+    read_numbers(*kind, rest)
+}
+
+// The same behind the kind of the instruction.
+fn read_numbers(kind: u8, bytes: &[u8]) -> Option<(Instruction, &[u8])>
+    ensures { λ r. ⌜ mapped (λ p. (p .0, now (p .1))) r ≡ ofKind kind (now (bytes .entry)) ⌝ }
+{
+    match kind {
+        1 => {
+            let [to, left, right, rest @ ..] = bytes else {
+                return None;
+            };
+            Some((
+                Instruction::Add {
+                    to: *to,
+                    left: *left,
+                    right: *right,
+                },
+                rest,
+            ))
+        }
+        2 => {
+            let [to, left, right, rest @ ..] = bytes else {
+                return None;
+            };
+            Some((
+                Instruction::Subtract {
+                    to: *to,
+                    left: *left,
+                    right: *right,
+                },
+                rest,
+            ))
+        }
+        3 => {
+            let [to, left, right, rest @ ..] = bytes else {
+                return None;
+            };
+            Some((
+                Instruction::Multiply {
+                    to: *to,
+                    left: *left,
+                    right: *right,
+                },
+                rest,
+            ))
+        }
+        4 => {
+            let [to, left, right, rest @ ..] = bytes else {
+                return None;
+            };
+            Some((
+                Instruction::Divide {
+                    to: *to,
+                    left: *left,
+                    right: *right,
+                },
+                rest,
+            ))
+        }
+        5 => {
+            let [to, a, b, c, d, rest @ ..] = bytes else {
+                return None;
+            };
+            let number = u32::from_be_bytes([*a, *b, *c, *d]);
+            Some((Instruction::Set { to: *to, number }, rest))
+        }
+        6 => {
+            let [left, right, count, rest @ ..] = bytes else {
+                return None;
+            };
+            Some((
+                Instruction::SkipIfBelow {
+                    left: *left,
+                    right: *right,
+                    count: *count,
+                },
+                rest,
+            ))
+        }
+        7 => {
+            let [slot, from, rest @ ..] = bytes else {
+                return None;
+            };
+            Some((
+                Instruction::Write {
+                    slot: *slot,
+                    from: *from,
+                },
+                rest,
+            ))
+        }
+        8 => Some((Instruction::Abort, bytes)),
+        _ => None,
+    }
+}
