@@ -5,7 +5,8 @@ ghost use Prim.Native.Nat.{_≤_};
 ghost use lib.ListN.{length};
 ghost use Rattle.std.specs.Of.Vec.{vec-items};
 ghost use Rattle.std.specs.Vec.{made};
-ghost use Rattle.orders.specs.Codec.{two, counted, encoded, instructionBytes};
+ghost use Rattle.std.specs.declared.option.Option.the-variants.{Some};
+ghost use Rattle.orders.specs.Codec.{two, counted, encoded, decoded, instructionBytes};
 ghost use Rattle.orders.specs.Contents.{contentsOf};
 use super::Order;
 use crate::instruction::Instruction;
@@ -13,8 +14,9 @@ use std::alloc::AllocError;
 use std::alloc::Global;
 
 impl Order {
+    // The bytes of the order, from which it is decoded again.
     pub fn encode(&self, heap: Global) -> Result<Vec<u8>, AllocError>
-        ensures { λ r. ⌜ made r (λ v. vec-items v ≡ encoded (contentsOf (now (self .entry)))) ⌝ }
+        ensures { λ r. ⌜ made r (λ v. (vec-items v ≡ encoded (contentsOf (now (self .entry)))) × (decoded (vec-items v) ≡ Some (contentsOf (now (self .entry))))) ⌝ }
     {
         let mut out = Vec::new(heap);
         write_keys(&mut out, self.reads())?;

@@ -68,6 +68,7 @@ impl Order {
     pub fn reads(&self) -> &[u16]
         ensures is { λ r. ⌜ now r ≡ contentsOf (now (self .entry)) .reads ⌝ }
         ensures few { λ r. ⌜ length (now r) ≤ 16 ⌝ }
+        ensures rises { λ r. ⌜ rising 0 (now r) ≡ true ⌝ }
     {
         self.reads.as_slice()
     }
@@ -75,6 +76,7 @@ impl Order {
     pub fn writes(&self) -> &[u16]
         ensures is { λ r. ⌜ now r ≡ contentsOf (now (self .entry)) .writes ⌝ }
         ensures few { λ r. ⌜ length (now r) ≤ 16 ⌝ }
+        ensures rises { λ r. ⌜ rising 0 (now r) ≡ true ⌝ }
     {
         self.writes.as_slice()
     }
