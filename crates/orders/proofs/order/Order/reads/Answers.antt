@@ -10,4 +10,5 @@ returns c =
     record {
       is = c .as-slice .ensures;
       few = let e = ap length (c .as-slice .ensures) in let k = keys-few (c .args .self .now .reads) in omega arith;
-      rises = ap (rising 0) (c .as-slice .ensures) ∙ c .args .self .now .reads .rises }
+      rises = ap (rising 0) (c .as-slice .ensures) ∙ c .args .self .now .reads .rises;
+    }

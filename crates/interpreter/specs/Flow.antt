@@ -1,0 +1,15 @@
+-- How a run goes on after one instruction.
+--   goesOn flow rest rs vs    what the other instructions come to, from the registers and from what will be written
+-- Assumes nothing.
+use mathlib.Core.List.{List}
+use Prim.Native.Nat.{ℕ}
+use Rattle.orders.specs.Meaning.{runFrom}
+use Rattle.orders.specs.declared.instruction.Instruction.{Instruction}
+use Rattle.orders.specs.declared.outcome.Outcome.{Outcome}
+use Rattle.orders.specs.declared.outcome.Outcome.the-variants.{Nothing}
+use Rattle.interpreter.specs.declared.Flow.{Flow}
+use Rattle.interpreter.specs.declared.Flow.the-variants.{Skip, Abort}
+
+abbrev pub goesOn : Flow → List Instruction → List ℕ → List ℕ → Outcome
+goesOn (Skip n) rest rs vs = runFrom n rest rs vs
+goesOn Abort rest rs vs = Nothing

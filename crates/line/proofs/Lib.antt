@@ -1,0 +1,5 @@
+pub mod Framing
+pub mod Reading
+pub mod Values
+pub mod Applied
+pub mod Totals
