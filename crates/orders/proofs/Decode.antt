@@ -13,7 +13,7 @@ use Rattle.std.proofs.shelf.Tests.{le-leb, and-from, and-parts}
 use Rattle.std.specs.declared.option.Option.{Option}
 use Rattle.std.specs.declared.option.Option.the-variants.{Some, None}
 use Rattle.orders.specs.Codec.{Read, keyIn, keysIn, codeIn, listIn, only, ended, andThen, encoded, decoded}
-use Rattle.orders.specs.Contents.{Contents, contentsOf, keysOf, keySet, program, valid}
+use Rattle.orders.specs.Contents.{Contents, contentsOf, keysOf, keySet, nothing, program, valid}
 use Rattle.orders.specs.Laws.{Bytes}
 use Rattle.orders.specs.Valid.{rising, allFit}
 use Rattle.orders.specs.declared.instruction.Instruction.{Instruction}
@@ -84,6 +84,10 @@ module _ (bs : List ℕ) where
             ends : (cs : List ℕ) → length cs ≡ 0 → ended (record { reads = rs; writes = ws; code = is }) cs ≡ Some (record { reads = rs; writes = ws; code = is })
             ends [] h′ = refl
             ends (x ∷ cs) h′ = absurd (omega arith)
+
+-- no keys and no code
+pub no-contents : (rs ws : List ℕ) → rs ≡ [] → ws ≡ [] → _≡_ {A = Contents} (record { reads = rs; writes = ws; code = [] }) nothing
+no-contents rs ws r w = λ i. record { reads = r i; writes = w i; code = [] }
 
 -- a value of the type is valid
 pub keys-few : (s : KeySet) → length (keysOf s) ≤ 16

@@ -1,10 +1,11 @@
 -- What an order says, as plain lists.
 --   Contents    a read set, a write set and the instructions
 --   contentsOf  of an order of the code
+--   nothing     of an order that does nothing
 --   valid       whether an order with these contents exists
 -- Assumes nothing.
 use mathlib.Core.Bool.{Bool, _&&_}
-use mathlib.Core.List.{List}
+use mathlib.Core.List.{List, []}
 use Prim.Native.Nat.{ℕ}
 use lib.Dec.{leb}
 use lib.ListN.{length, take}
@@ -23,6 +24,9 @@ keysOf s = take (s .len) (s .keys)
 
 abbrev pub contentsOf : Order → Contents
 contentsOf o = record { reads = keysOf (o .reads); writes = keysOf (o .writes); code = take (o .len) (o .code) }
+
+abbrev pub nothing : Contents
+nothing = record { reads = []; writes = []; code = [] }
 
 -- at most sixteen keys, rising
 abbrev pub keySet : List ℕ → Bool

@@ -24,25 +24,26 @@ pub fn execute(heap: Global, bytes: &[u8]) -> Result<Execution, AllocError>
         rest: 0,
     };
     let mut frames = Frames::new(bytes);
+    let mut decoded = Order::idle();
     for place in 0..LIMIT {
         let Some(order) = frames.next() else {
             break;
         };
-        execution.step(place, order)?;
+        execution.step(place, order, &mut decoded)?;
     }
     execution.rest = frames.rest().len();
     Ok(execution)
 }
 
 impl Execution {
-    // Does the order at a place; one that is malformed is noted and does nothing.
-    fn step(&mut self, place: u32, order: &[u8]) -> Result<(), AllocError>
+    // Does the order at a place, decoded into the room that is lent; one that is malformed is noted and does nothing.
+    fn step(&mut self, place: u32, order: &[u8], decoded: &mut Order) -> Result<(), AllocError>
         requires { ⌜ now self .done ≤ place ⌝ ∗ ⌜ place < 4294967295 ⌝ }
         ensures { λ r. ⌜ made r (λ _. (now (self .exit) .done ≤ suc place) × ((os : List (List ℕ)) → comesTo (suc place) os (now (self .exit)) ≡ comesTo place (now (order .entry) ∷ os) (now (self .entry)))) ⌝ }
     {
-        match Order::decode(order) {
-            Ok(order) => {
-                self.store.apply(&order);
+        match decoded.decode_into(order) {
+            Ok(()) => {
+                self.store.apply(decoded);
                 self.done += 1;
             }
             Err(_) => self.malformed.push(place)?,

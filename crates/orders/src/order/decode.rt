@@ -6,12 +6,12 @@ ghost use lib.ListN.{length, take};
 ghost use Rattle.std.specs.Options.{mapped, Cases as BySome};
 ghost use Rattle.std.specs.declared.option.Option.the-variants.{Some, None};
 ghost use Rattle.std.specs.Results.{Cases, okPart};
-ghost use Rattle.orders.specs.Contents.{contentsOf};
+ghost use Rattle.std.specs.Vec.{refused};
+ghost use Rattle.orders.specs.Contents.{contentsOf, nothing};
 ghost use Rattle.orders.specs.Refusals.{numberOf};
 ghost use Rattle.orders.specs.Codec.{encoded, decoded, listIn, keyIn, codeIn, ofKind, anyIn};
 use super::KeySet;
 use super::Order;
-use super::parts::blank;
 use super::parts::suits;
 use crate::instruction::Instruction;
 use crate::refusal::Refusal;
@@ -22,6 +22,22 @@ impl Order {
         ensures finds { λ r. ⌜ decoded (now (bytes .entry)) ≡ mapped contentsOf (okPart r) ⌝ }
         ensures encodes { λ r. ⌜ Cases r (λ o. encoded (contentsOf o) ≡ now (bytes .entry)) (λ e. (numberOf e ≡ 1) × ((o : Order) → encoded (contentsOf o) ≡ now (bytes .entry) → ⊥)) ⌝ }
     {
+        let mut order = Order::idle();
+        match order.decode_into(bytes) {
+            Ok(()) => Ok(order),
+            Err(refusal) => Err(refusal),
+        }
+    }
+
+    // The same in place, for a caller that decodes many; refused, the order is idle.
+    pub fn decode_into(&mut self, bytes: &[u8]) -> Result<(), Refusal>
+        ensures finds { λ r. ⌜ decoded (now (bytes .entry)) ≡ mapped (λ _. contentsOf (now (self .exit))) (okPart r) ⌝ }
+        ensures encodes { λ r. ⌜ Cases r (λ _. encoded (contentsOf (now (self .exit))) ≡ now (bytes .entry)) (λ e. (numberOf e ≡ 1) × ((o : Order) → encoded (contentsOf o) ≡ now (bytes .entry) → ⊥)) ⌝ }
+        ensures idles { λ r. ⌜ refused r (λ _. contentsOf (now (self .exit)) ≡ nothing) ⌝ }
+    {
+        self.reads = KeySet::none();
+        self.writes = KeySet::none();
+        self.len = 0;
         let mut keys = [0; 16];
         let Some((count, rest)) = read_keys(bytes, &mut keys) else {
             return Err(Refusal::Malformed);
@@ -35,19 +51,16 @@ impl Order {
         let Some(writes) = KeySet::new(&keys[0..count]) else {
             return Err(Refusal::Malformed);
         };
-        let mut code = blank();
-        let Some((len, rest)) = read_code(rest, writes.as_slice().len(), &mut code) else {
+        let Some((len, rest)) = read_code(rest, writes.as_slice().len(), &mut self.code) else {
             return Err(Refusal::Malformed);
         };
         if !rest.is_empty() {
             return Err(Refusal::Malformed);
         }
-        Ok(Order {
-            reads,
-            writes,
-            code,
-            len,
-        })
+        self.reads = reads;
+        self.writes = writes;
+        self.len = len;
+        Ok(())
     }
 }
 

@@ -1,11 +1,12 @@
 // Orders and key sets from their parts, and the parts again.
 ghost use mathlib.Core.Path.{_≡_};
 ghost use mathlib.Core.Bool.{true, false};
+ghost use mathlib.Core.List.{[]};
 ghost use Prim.Native.Nat.{_≤_};
 ghost use lib.ListN.{length};
 ghost use Rattle.std.specs.Options.{Cases as BySome};
 ghost use Rattle.std.specs.Results.{Cases};
-ghost use Rattle.orders.specs.Contents.{contentsOf, keysOf, keySet, valid};
+ghost use Rattle.orders.specs.Contents.{contentsOf, keysOf, keySet, nothing, valid};
 ghost use Rattle.orders.specs.Refusals.{numberOf};
 ghost use Rattle.orders.specs.Valid.{rising, fits, allFit};
 use super::KeySet;
@@ -30,6 +31,12 @@ impl KeySet {
         Some(KeySet { keys, len })
     }
 
+    pub fn none() -> KeySet
+        ensures { λ r. ⌜ keysOf r ≡ [] ⌝ }
+    {
+        KeySet { keys: [0; 16], len: 0 }
+    }
+
     pub fn as_slice(&self) -> &[u16]
         ensures { λ r. ⌜ now r ≡ keysOf (now (self .entry)) ⌝ }
     {
@@ -38,6 +45,18 @@ impl KeySet {
 }
 
 impl Order {
+    // An order that reads, writes and does nothing.
+    pub fn idle() -> Order
+        ensures { λ r. ⌜ contentsOf r ≡ nothing ⌝ }
+    {
+        Order {
+            reads: KeySet::none(),
+            writes: KeySet::none(),
+            code: blank(),
+            len: 0,
+        }
+    }
+
     // The order with these keys and instructions, refused where there is no such order.
     pub fn new(reads: &[u16], writes: &[u16], code: &[Instruction]) -> Result<Order, Refusal>
         ensures { λ r. ⌜ Cases r (λ o. (contentsOf o .reads ≡ now (reads .entry)) × (contentsOf o .writes ≡ now (writes .entry)) × (contentsOf o .code ≡ now (code .entry))) (λ e. (numberOf e ≡ 1) × (valid (record { reads = now (reads .entry); writes = now (writes .entry); code = now (code .entry) }) ≡ false)) ⌝ }
@@ -91,7 +110,7 @@ impl Order {
 }
 
 // Room for the instructions of an order.
-pub fn blank() -> [Instruction; 64]
+fn blank() -> [Instruction; 64]
     ensures { λ r. ⌜ length r ≡ 64 ⌝ }
 {
     [Instruction::Abort; 64]

@@ -9,7 +9,7 @@ pub returns-in-Ok : need.returns-in-Ok
 returns-in-Ok c = (
   omega arith,
   λ os. one-formed (c .args .order .now) os (c .args .place) (c .args .self .now .done) (vec-items (c .args .self .now .malformed)) (valuesIn (c .args .self .now .store))
-      (valuesIn (c .apply .last .self)) (contentsOf (c .in-Ok .order)) (c .in-Ok .ensures tt .finds) (c .apply .ensures .leaves),
+      (valuesIn (c .apply .last .self)) (contentsOf (c .decode-into .last .self)) (c .in-Ok .ensures tt .finds) (c .apply .ensures .leaves),
 )
 
 pub returns-in-Continue-push : need.returns-in-Continue-push
