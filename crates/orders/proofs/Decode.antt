@@ -21,30 +21,6 @@ use Rattle.orders.specs.declared.order.KeySet.{KeySet}
 use Rattle.orders.specs.declared.order.Order.{Order}
 use Rattle.orders.proofs.Laws.{decodes-all, decodes-only}
 
--- a key set after its list was read; `count - 0` is how a part of an array from 0 on reads
-module _ (bs : List ℕ) where
-  pub keys-none : listIn 16 keyIn bs ≡ None → keysIn bs ≡ None
-  keys-none e = ap (only (rising 0)) e
-
-  module _ (count : ℕ) (ks rest : List ℕ) (read : listIn 16 keyIn bs ≡ Some (take count ks, rest)) where
-    whole : take (count - 0) ks ≡ take count ks
-    whole = ap (λ n. take n ks) (omega arith)
-
-    keys-read : keysIn bs ≡ cond (rising 0 (take count ks)) (Some (take count ks, rest)) None
-    keys-read = ap (only (rising 0)) read
-
-    pub keys-some : (s : KeySet) → keysOf s ≡ take (count - 0) ks → keysIn bs ≡ Some (keysOf s, rest)
-    keys-some s is =
-        let e : take count ks ≡ keysOf s = sym (is ∙ whole) in
-        keys-read ∙ ap (λ x. cond (rising 0 x) (Some (x, rest)) None) e ∙ ap (λ b. cond b (Some (keysOf s, rest)) None) (s .rises)
-
-    pub keys-off : count ≤ 16 → keySet (take (count - 0) ks) ≡ false → keysIn bs ≡ None
-    keys-off few off =
-        let short : leb (length (take count ks)) 16 ≡ true = le-leb (length (take count ks)) 16 (simp length-take (omega arith)) in
-        let same : (leb (length (take count ks)) 16 && rising 0 (take count ks)) ≡ false = ap keySet (sym whole) ∙ off in
-        let unsorted : rising 0 (take count ks) ≡ false = sym (ap (λ b. b && rising 0 (take count ks)) short) ∙ same in
-        keys-read ∙ ap (λ b. cond b (Some (take count ks, rest)) None) unsorted
-
 -- the order after its parts were read
 module _ (bs : List ℕ) where
   pub decoded-no-reads : keysIn bs ≡ None → decoded bs ≡ None

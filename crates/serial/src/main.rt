@@ -4,6 +4,7 @@ use line::execute;
 use std::env;
 use std::error::AnyError;
 use std::fs::File;
+use std::io;
 use std::io::BufWriter;
 use std::io::Read;
 use std::io::Write;
@@ -45,16 +46,33 @@ fn serial(rt: &LibcRuntime, path: &str) -> Result<(), AnyError> {
     print_report(rt, &execution)
 }
 
-// The whole file, in one piece of memory of its size.
+// The whole file; an error names it.
 fn read(rt: &LibcRuntime, path: &str) -> Result<Vec<u8>, AnyError> {
-    let heap = rt.alloc();
-    match std::fs::read(rt, path) {
+    match read_all(rt, path) {
         Ok(bytes) => Ok(bytes),
         Err(e) => {
-            let text = format!(heap, "{path}: {e}")?;
+            let text = format!(rt.alloc(), "{path}: {e}")?;
             Err(text.into())
         }
     }
+}
+
+// Reads into room of the file's size at once; `read_to_end` alone would go by small pieces.
+fn read_all(rt: &LibcRuntime, path: &str) -> io::Result<Vec<u8>> {
+    let mut file = File::open(rt, path)?;
+    let size = file.metadata()?.len();
+    let mut bytes = vec![in rt.alloc(); 0; size as usize]?;
+    let mut filled = 0;
+    for _ in 0..size {
+        let count = file.read(&mut bytes[filled..])?;
+        if count == 0 {
+            break;
+        }
+        filled += count;
+    }
+    bytes.truncate(filled);
+    file.read_to_end(&mut bytes)?;
+    Ok(bytes)
 }
 
 fn print_values(rt: &LibcRuntime, execution: &Execution) -> Result<(), AnyError> {

@@ -1,17 +1,18 @@
 // An order from its bytes.
 ghost use mathlib.Core.Path.{_≡_};
-ghost use mathlib.Core.Bool.{true};
+ghost use mathlib.Core.Bool.{cond};
 ghost use Prim.Native.Nat.{_≤_};
 ghost use lib.ListN.{length, take};
 ghost use Rattle.std.specs.Options.{mapped, Cases as BySome};
 ghost use Rattle.std.specs.declared.option.Option.the-variants.{Some, None};
 ghost use Rattle.std.specs.Results.{Cases, okPart};
 ghost use Rattle.std.specs.Vec.{refused};
-ghost use Rattle.orders.specs.Contents.{contentsOf, nothing};
+ghost use Rattle.orders.specs.Contents.{contentsOf, keysOf, nothing};
 ghost use Rattle.orders.specs.Refusals.{numberOf};
-ghost use Rattle.orders.specs.Codec.{encoded, decoded, listIn, keyIn, codeIn, ofKind, anyIn};
+ghost use Rattle.orders.specs.Codec.{encoded, decoded, listIn, keysIn, keyIn, codeIn, ofKind, anyIn};
 use super::KeySet;
 use super::Order;
+use super::parts::rises;
 use super::parts::suits;
 use crate::instruction::Instruction;
 use crate::refusal::Refusal;
@@ -35,32 +36,51 @@ impl Order {
         ensures encodes { λ r. ⌜ Cases r (λ _. encoded (contentsOf (now (self .exit))) ≡ now (bytes .entry)) (λ e. (numberOf e ≡ 1) × ((o : Order) → encoded (contentsOf o) ≡ now (bytes .entry) → ⊥)) ⌝ }
         ensures idles { λ r. ⌜ refused r (λ _. contentsOf (now (self .exit)) ≡ nothing) ⌝ }
     {
-        self.reads = KeySet::none();
-        self.writes = KeySet::none();
+        if self.take_in(bytes) {
+            return Ok(());
+        }
+        self.reads.clear();
+        self.writes.clear();
         self.len = 0;
-        let mut keys = [0; 16];
-        let Some((count, rest)) = read_keys(bytes, &mut keys) else {
-            return Err(Refusal::Malformed);
+        Err(Refusal::Malformed)
+    }
+
+    // Whether the bytes encode an order, which it then is.
+    fn take_in(&mut self, bytes: &[u8]) -> bool
+        ensures { λ r. ⌜ decoded (now (bytes .entry)) ≡ cond r (Some (contentsOf (now (self .exit)))) None ⌝ }
+    {
+        self.len = 0;
+        let Some(rest) = self.reads.take_in(bytes) else {
+            return false;
         };
-        let Some(reads) = KeySet::new(&keys[0..count]) else {
-            return Err(Refusal::Malformed);
+        let Some(rest) = self.writes.take_in(rest) else {
+            return false;
         };
-        let Some((count, rest)) = read_keys(rest, &mut keys) else {
-            return Err(Refusal::Malformed);
-        };
-        let Some(writes) = KeySet::new(&keys[0..count]) else {
-            return Err(Refusal::Malformed);
-        };
-        let Some((len, rest)) = read_code(rest, writes.as_slice().len(), &mut self.code) else {
-            return Err(Refusal::Malformed);
+        let Some((len, rest)) = read_code(rest, self.writes.as_slice().len(), &mut self.code) else {
+            return false;
         };
         if !rest.is_empty() {
-            return Err(Refusal::Malformed);
+            return false;
         }
-        self.reads = reads;
-        self.writes = writes;
         self.len = len;
-        Ok(())
+        true
+    }
+}
+
+impl KeySet {
+    // Reads the keys behind their count, which it then has: the bytes that follow.
+    fn take_in<'a>(&mut self, bytes: &'a [u8]) -> Option<&'a [u8]>
+        ensures { λ r. ⌜ mapped (λ rest. (keysOf (now (self .exit)), now rest)) r ≡ keysIn (now (bytes .entry)) ⌝ }
+    {
+        self.len = 0;
+        let Some((len, rest)) = read_keys(bytes, &mut self.keys) else {
+            return None;
+        };
+        if !rises(&self.keys[0..len]) {
+            return None;
+        }
+        self.len = len;
+        Some(rest)
     }
 }
 

@@ -34,7 +34,16 @@ impl KeySet {
     pub fn none() -> KeySet
         ensures { λ r. ⌜ keysOf r ≡ [] ⌝ }
     {
-        KeySet { keys: [0; 16], len: 0 }
+        KeySet {
+            keys: [0; 16],
+            len: 0,
+        }
+    }
+
+    pub fn clear(&mut self)
+        ensures { λ _. ⌜ keysOf (now (self .exit)) ≡ [] ⌝ }
+    {
+        self.len = 0;
     }
 
     pub fn as_slice(&self) -> &[u16]
@@ -127,7 +136,7 @@ fn all_suit(code: &[Instruction], writes: usize) -> bool
     true
 }
 
-fn rises(list: &[u16]) -> bool
+pub fn rises(list: &[u16]) -> bool
     ensures { λ r. ⌜ r ≡ rising 0 (now (list .entry)) ⌝ }
 {
     let mut low: u32 = 0;
