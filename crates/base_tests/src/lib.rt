@@ -23,7 +23,45 @@ mod tests {
             // a key cut in two
             &[1, 0],
             // seventeen keys
-            &[17, 0, 1, 0, 2, 0, 3, 0, 4, 0, 5, 0, 6, 0, 7, 0, 8, 0, 9, 0, 10, 0, 11, 0, 12, 0, 13, 0, 14, 0, 15, 0, 16, 0, 17, 0, 0],
+            &[
+                17,
+                0,
+                1,
+                0,
+                2,
+                0,
+                3,
+                0,
+                4,
+                0,
+                5,
+                0,
+                6,
+                0,
+                7,
+                0,
+                8,
+                0,
+                9,
+                0,
+                10,
+                0,
+                11,
+                0,
+                12,
+                0,
+                13,
+                0,
+                14,
+                0,
+                15,
+                0,
+                16,
+                0,
+                17,
+                0,
+                0,
+            ],
             // register 32
             &[0, 0, 1, 5, 32, 0, 0, 0, 7],
             &[0, 0, 1, 1, 0, 32, 0],
@@ -42,8 +80,15 @@ mod tests {
     #[test]
     fn an_order_survives_its_bytes(rt: LibcRuntime) -> Result<(), Fail> {
         let code = [
-            Instruction::Set { to: 3, number: 0x0102_0304 },
-            Instruction::SkipIfBelow { left: 0, right: 3, count: 200 },
+            Instruction::Set {
+                to: 3,
+                number: 0x0102_0304,
+            },
+            Instruction::SkipIfBelow {
+                left: 0,
+                right: 3,
+                count: 200,
+            },
             Instruction::Write { slot: 1, from: 3 },
             Instruction::Abort,
         ];
@@ -51,7 +96,33 @@ mod tests {
             return Err(Fail::new("a valid order was refused"));
         };
         let bytes = order.encode(rt.alloc())?;
-        let expected = [2, 0, 1, 1, 2, 2, 0, 7, 255, 255, 4, 5, 3, 1, 2, 3, 4, 6, 0, 3, 200, 7, 1, 3, 8];
+        let expected = [
+            2,
+            0,
+            1,
+            1,
+            2,
+            2,
+            0,
+            7,
+            255,
+            255,
+            4,
+            5,
+            3,
+            1,
+            2,
+            3,
+            4,
+            6,
+            0,
+            3,
+            200,
+            7,
+            1,
+            3,
+            8,
+        ];
         check(bytes.as_slice() == expected.as_slice()).note("the bytes")?;
         let Ok(again) = Order::decode(bytes.as_slice()) else {
             return Err(Fail::new("its own bytes were refused"));
@@ -64,7 +135,11 @@ mod tests {
     // What a register says is written, and an abort takes it back.
     #[test]
     fn an_abort_takes_back_what_was_said() -> Result<(), Fail> {
-        let said = [Instruction::Set { to: 0, number: 7 }, Instruction::Write { slot: 0, from: 0 }, Instruction::Abort];
+        let said = [
+            Instruction::Set { to: 0, number: 7 },
+            Instruction::Write { slot: 0, from: 0 },
+            Instruction::Abort,
+        ];
         let Ok(writes) = Order::new(&[], &[4], &said[0..2]) else {
             return Err(Fail::new("refused"));
         };

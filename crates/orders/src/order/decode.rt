@@ -151,88 +151,47 @@ fn read_numbers(kind: u8, bytes: &[u8]) -> Option<(Instruction, &[u8])>
 {
     match kind {
         1 => {
-            let [to, left, right, rest @ ..] = bytes else {
+            let &[to, left, right, ref rest @ ..] = bytes else {
                 return None;
             };
-            Some((
-                Instruction::Add {
-                    to: *to,
-                    left: *left,
-                    right: *right,
-                },
-                rest,
-            ))
+            Some((Instruction::Add { to, left, right }, rest))
         }
         2 => {
-            let [to, left, right, rest @ ..] = bytes else {
+            let &[to, left, right, ref rest @ ..] = bytes else {
                 return None;
             };
-            Some((
-                Instruction::Subtract {
-                    to: *to,
-                    left: *left,
-                    right: *right,
-                },
-                rest,
-            ))
+            Some((Instruction::Subtract { to, left, right }, rest))
         }
         3 => {
-            let [to, left, right, rest @ ..] = bytes else {
+            let &[to, left, right, ref rest @ ..] = bytes else {
                 return None;
             };
-            Some((
-                Instruction::Multiply {
-                    to: *to,
-                    left: *left,
-                    right: *right,
-                },
-                rest,
-            ))
+            Some((Instruction::Multiply { to, left, right }, rest))
         }
         4 => {
-            let [to, left, right, rest @ ..] = bytes else {
+            let &[to, left, right, ref rest @ ..] = bytes else {
                 return None;
             };
-            Some((
-                Instruction::Divide {
-                    to: *to,
-                    left: *left,
-                    right: *right,
-                },
-                rest,
-            ))
+            Some((Instruction::Divide { to, left, right }, rest))
         }
         5 => {
-            let [to, a, b, c, d, rest @ ..] = bytes else {
+            let &[to, a, b, c, d, ref rest @ ..] = bytes else {
                 return None;
             };
-            let number = u32::from_be_bytes([*a, *b, *c, *d]);
-            Some((Instruction::Set { to: *to, number }, rest))
+            let number = u32::from_be_bytes([a, b, c, d]);
+            Some((Instruction::Set { to, number }, rest))
         }
         6 => {
-            let [left, right, count, rest @ ..] = bytes else {
+            let &[left, right, count, ref rest @ ..] = bytes else {
                 return None;
             };
-            Some((
-                Instruction::SkipIfBelow {
-                    left: *left,
-                    right: *right,
-                    count: *count,
-                },
-                rest,
-            ))
+            Some((Instruction::SkipIfBelow { left, right, count }, rest))
         }
         7 => {
-            let [slot, from, rest @ ..] = bytes else {
+            let &[slot, from, ref rest @ ..] = bytes else {
                 return None;
             };
-            Some((
-                Instruction::Write {
-                    slot: *slot,
-                    from: *from,
-                },
-                rest,
-            ))
+            Some((Instruction::Write { slot, from }, rest))
         }
         8 => Some((Instruction::Abort, bytes)),
         _ => None,

@@ -1,0 +1,4 @@
+pub mod Plan
+pub mod House
+pub mod Machine
+pub mod Promise
