@@ -34,10 +34,8 @@ impl KeySet {
     pub fn none() -> KeySet
         ensures { λ r. ⌜ keysOf r ≡ [] ⌝ }
     {
-        KeySet {
-            keys: [0; 16],
-            len: 0,
-        }
+        let keys = [0; 16];
+        KeySet { keys, len: 0 }
     }
 
     pub fn clear(&mut self)
