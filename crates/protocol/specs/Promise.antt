@@ -12,7 +12,8 @@
 --   NoRing        no set of tasks in which each waits for one of the set
 --   NoGap         of the orders that write a key in a house, those done there are the first so many
 --   ToldStays     as long as some house has not copied beyond an order, what was told of it can be told again, the very same
---   Promise       all of these, of a net; Promised: of every net that a run over a sound plan comes to; BaseSound: the base is such a plan
+--   Promise       all of these, of a net
+--   Always        of every net that a run over a sound plan comes to; BaseSound: the base is such a plan
 -- Assumes nothing.
 use mathlib.Core.Path.{_≡_}
 use mathlib.Core.Bool.{Bool, true, false}
@@ -104,8 +105,9 @@ module _ (os : List Transaction) (p : Plan) (first : ℕ → ℕ) where
     pub no-gap : NoGap n
     pub told-stays : ToldStays n
 
-abbrev pub Promised : Type 0
-Promised = (os : List Transaction) (p : Plan) (first : ℕ → ℕ) → Sound os p → (n : Net) → Reach os p first n → Promise os p first n
+-- of every net that a run over a sound plan comes to
+abbrev pub Always : (List Transaction → Plan → (ℕ → ℕ) → Net → Type 0) → Type 0
+Always P = (os : List Transaction) (p : Plan) (first : ℕ → ℕ) → Sound os p → (n : Net) → Reach os p first n → P os p first n
 
 abbrev pub BaseSound : Type 0
 BaseSound = (os : List Transaction) → Sound os (base os)
