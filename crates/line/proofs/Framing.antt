@@ -10,7 +10,7 @@ use lib.ListN.{length, take, drop, getD}
 use lib.Seq.{take-append-add, drop-append-add}
 use Rattle.std.specs.Joined.{joined}
 use Rattle.std.proofs.shelf.Elements.{all-drop}
-use Rattle.std.proofs.shelf.Lists.{append-assoc, append-nil, drop-at, joined-more, length-append, length-drop, length-take, length-take-le, nil-from-length, take-append-drop, take-at}
+use Rattle.std.proofs.shelf.Lists.{append-assoc, append-nil, drop-append-le, drop-at, drop-drop, joined-more, length-append, length-drop, length-take, length-take-le, nil-from-length, take-append-drop, take-at}
 use Rattle.std.proofs.shelf.Tests.{cases-lt, cond-true, cond-false, le-leb, lt-leb}
 use Rattle.orders.specs.Laws.{Bytes}
 use Rattle.line.specs.Frames.{framed, framesIn, frames, extent, tailOf, Whole}
@@ -114,12 +114,27 @@ module _ (h l : ℕ) (o rest : List ℕ) (is : length o ≡ h * 256 + l) where
       let s : extent (frames (h ∷ l ∷ (o ++ rest))) ≡ suc (suc (length o + extent (frames rest))) = omega (arith, next-extent) in
       ap (λ n. drop n (h ∷ l ∷ (o ++ rest))) s ∙ drop-append-add o rest (extent (frames rest))
 
-pub extent-fits : (bs : List ℕ) → extent (frames bs) ≤ length bs
+extent-fits : (bs : List ℕ) → extent (frames bs) ≤ length bs
 extent-fits bs = go (log bs)
   where
     go : {cs : List ℕ} → Log cs → extent (frames cs) ≤ length cs
     go (stop e) = rw e (omega arith)
     go (next h l o {rest} e r) = rw (next-extent h l o rest e) (simp length-append (omega (arith, go r)))
+
+pub next-fits : (bs cs o : List ℕ) → frames bs ≡ o ∷ frames cs → length o + 2 ≤ length bs
+next-fits bs cs o first = omega (arith, extent-fits bs, ap extent first ∙ extent-first o (frames cs))
+
+extent-append : (os more : List (List ℕ)) → extent (os ++ more) ≡ extent os + extent more
+extent-append [] more = omega arith
+extent-append (o ∷ os) more = omega (arith, extent-first o (os ++ more), extent-first o os, extent-append os more)
+
+pub extent-front : (n : ℕ) (bs : List ℕ) → extent (take n (frames bs)) ≤ length bs
+extent-front n bs = omega (arith, extent-fits bs, extent-append (take n (frames bs)) (drop n (frames bs)), ap extent (take-append-drop n (frames bs)))
+
+-- the bytes behind more orders
+pub drop-more : (os more : List (List ℕ)) (bs cs : List ℕ) → extent os ≤ length bs → drop (extent (os ++ more)) (bs ++ cs) ≡ drop (extent more) (drop (extent os) bs ++ cs)
+drop-more os more bs cs fits =
+    ap (λ n. drop n (bs ++ cs)) (extent-append os more) ∙ sym (drop-drop (extent more) (extent os) (bs ++ cs)) ∙ ap (drop (extent more)) (drop-append-le (extent os) bs cs fits)
 
 pub whole-nil : Whole []
 whole-nil = ap extent (frames-short [] (omega arith))
@@ -135,20 +150,32 @@ frames-append bs more = go (log bs)
         let wr : Whole rest = omega (arith, next-extent h l o rest e, length-append o rest) in
         rw (next-append h l o rest e more, frames-next h l o rest e, go r wr)
 
-pub frames-front : (bs : List ℕ) → frames (take (extent (frames bs)) bs) ≡ frames bs
-frames-front bs = go (log bs)
-  where
-    go : {cs : List ℕ} → Log cs → frames (take (extent (frames cs)) cs) ≡ frames cs
-    go {cs} (stop e) = ap (λ os. frames (take (extent os) cs)) e ∙ frames-short [] (omega arith) ∙ sym e
-    go (next h l o {rest} e r) =
-        ap (λ n. frames (take n (h ∷ l ∷ (o ++ rest)))) (next-extent h l o rest e)
-        ∙ ap frames (take-next h l o rest (extent (frames rest)))
-        ∙ frames-next h l o (take (extent (frames rest)) rest) e
-        ∙ ap (λ os. o ∷ os) (go r)
-        ∙ sym (frames-next h l o rest e)
+-- the orders that more bytes add: those behind the orders os, of at most n
+abbrev onward : (n : ℕ) (os : List (List ℕ)) (bs more : List ℕ) → List (List ℕ)
+onward n os bs more = take (n - length os) (frames (drop (extent os) bs ++ more))
 
-pub whole-front : (bs : List ℕ) → Whole (take (extent (frames bs)) bs)
-whole-front bs = ap extent (frames-front bs) ∙ sym (length-take-le (extent (frames bs)) bs (extent-fits bs))
+onward-next : (h l : ℕ) (o rest : List ℕ) (n : ℕ) (os : List (List ℕ)) (more : List ℕ) → onward (suc n) (o ∷ os) (h ∷ l ∷ (o ++ rest)) more ≡ onward n os rest more
+onward-next h l o rest n os more =
+    let same : suc n - suc (length os) ≡ n - length os = omega arith in
+    let s : extent (o ∷ os) ≡ suc (suc (length o + extent os)) = omega (arith, extent-first o os) in
+    ap (λ k. take k (frames (drop (extent (o ∷ os)) (h ∷ l ∷ (o ++ rest)) ++ more))) same
+    ∙ ap (λ k. take (n - length os) (frames (drop k (h ∷ l ∷ (o ++ rest)) ++ more))) s
+    ∙ ap (λ bs. take (n - length os) (frames (bs ++ more))) (drop-append-add o rest (extent os))
+
+pub frames-onward : (n : ℕ) (bs more : List ℕ) → take n (frames (bs ++ more)) ≡ take n (frames bs) ++ onward n (take n (frames bs)) bs more
+frames-onward n bs more = go (log bs) n
+  where
+    go : {cs : List ℕ} → Log cs → (m : ℕ) → take m (frames (cs ++ more)) ≡ take m (frames cs) ++ onward m (take m (frames cs)) cs more
+    go {cs} (stop e) zero = refl
+    go {cs} (stop e) (suc m) =
+        let same : suc m ≡ suc m - 0 = omega arith in
+        ap (λ k. take k (frames (cs ++ more))) same ∙ ap (λ os. take (suc m) os ++ onward (suc m) (take (suc m) os) cs more) (sym e)
+    go (next h l o {rest} e r) zero = refl
+    go (next h l o {rest} e r) (suc m) =
+        ap (take (suc m)) (next-append h l o rest e more)
+        ∙ ap (λ os. o ∷ os) (go r m)
+        ∙ ap (λ os. o ∷ (take m (frames rest) ++ os)) (sym (onward-next h l o rest m (take m (frames rest)) more))
+        ∙ ap (λ os. take (suc m) os ++ onward (suc m) (take (suc m) os) (h ∷ l ∷ (o ++ rest)) more) (sym (frames-next h l o rest e))
 
 pub whole-append : (bs o : List ℕ) → Whole bs → Whole (bs ++ framed o)
 whole-append bs o w =

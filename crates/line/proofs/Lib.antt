@@ -3,3 +3,4 @@ pub mod Reading
 pub mod Values
 pub mod Applied
 pub mod Totals
+pub mod Pieces

@@ -44,6 +44,7 @@ impl<'a> Frames<'a> {
     pub fn rest(&self) -> &'a [u8]
         ensures { λ r. ⌜ now r ≡ now (now (self .entry) .rest) ⌝ }
     {
-        self.rest
+        let Frames { rest } = self;
+        *rest
     }
 }

@@ -9,5 +9,4 @@ pub use log::Log;
 pub use log::LogError;
 pub use log::LogErrorDisplay;
 pub use serial::Execution;
-pub use serial::execute;
 pub use store::Store;

@@ -1,6 +1,9 @@
 // `serial [FILE]`: does the orders of a log one by one and prints the values that they leave.
+mod row;
+
 use line::Execution;
-use line::execute;
+use line::Store;
+use row::spell;
 use std::env;
 use std::error::AnyError;
 use std::fs::File;
@@ -8,6 +11,9 @@ use std::io;
 use std::io::BufWriter;
 use std::io::Read;
 use std::io::Write;
+
+// How many bytes are read at once.
+const PIECE: usize = 262_144;
 
 const HELP: &str = "serial [FILE]
 
@@ -18,7 +24,13 @@ order, with its place and the number of its refusal, and how many were done.
 ";
 
 fn main(rt: LibcRuntime) -> Result<(), AnyError> {
-    rt.report(run(&rt))
+    match run(&rt) {
+        Ok(()) => Ok(()),
+        Err(e) => {
+            eprintln!(rt, "serial: {e}")?;
+            Err(e)
+        }
+    }
 }
 
 fn run(rt: &LibcRuntime) -> Result<(), AnyError> {
@@ -40,47 +52,37 @@ fn run(rt: &LibcRuntime) -> Result<(), AnyError> {
 }
 
 fn serial(rt: &LibcRuntime, path: &str) -> Result<(), AnyError> {
-    let bytes = read(rt, path)?;
-    let execution = execute(rt.alloc(), bytes.as_slice())?;
-    print_values(rt, &execution)?;
+    let mut execution = Execution::new(rt.alloc())?;
+    if let Err(e) = read(rt, path, &mut execution) {
+        let text = format!(rt.alloc(), "{path}: {e}")?;
+        return Err(text.into());
+    }
+    print_values(rt, execution.store())?;
     print_report(rt, &execution)
 }
 
-// The whole file; an error names it.
-fn read(rt: &LibcRuntime, path: &str) -> Result<Vec<u8>, AnyError> {
-    match read_all(rt, path) {
-        Ok(bytes) => Ok(bytes),
-        Err(e) => {
-            let text = format!(rt.alloc(), "{path}: {e}")?;
-            Err(text.into())
-        }
-    }
-}
-
-// Reads into room of the file's size at once; `read_to_end` alone would go by small pieces.
-fn read_all(rt: &LibcRuntime, path: &str) -> io::Result<Vec<u8>> {
+// Reads the file by pieces, all through one room.
+fn read(rt: &LibcRuntime, path: &str, execution: &mut Execution) -> io::Result<()> {
     let mut file = File::open(rt, path)?;
-    let size = file.metadata()?.len();
-    let mut bytes = vec![in rt.alloc(); 0; size as usize]?;
-    let mut filled = 0;
-    for _ in 0..size {
-        let count = file.read(&mut bytes[filled..])?;
+    let mut room = vec![in rt.alloc(); 0; PIECE]?;
+    for _ in 0..u64::MAX {
+        let count = file.read(&mut room)?;
         if count == 0 {
             break;
         }
-        filled += count;
+        execution.push(&room[0..count])?;
     }
-    bytes.truncate(filled);
-    file.read_to_end(&mut bytes)?;
-    Ok(bytes)
+    Ok(())
 }
 
-fn print_values(rt: &LibcRuntime, execution: &Execution) -> Result<(), AnyError> {
+fn print_values(rt: &LibcRuntime, store: &Store) -> Result<(), AnyError> {
     let mut out = BufWriter::new(rt.stdout());
+    let mut row = [0; 17];
     for key in 0..=u16::MAX {
-        let value = execution.store.get(key);
+        let value = store.get(key);
         if value != 0 {
-            writeln!(out, "{key} {value}")?;
+            let start = spell(key, value, &mut row);
+            out.write_all(&row[start..17])?;
         }
     }
     out.flush()?;
@@ -89,15 +91,15 @@ fn print_values(rt: &LibcRuntime, execution: &Execution) -> Result<(), AnyError>
 
 fn print_report(rt: &LibcRuntime, execution: &Execution) -> Result<(), AnyError> {
     let mut out = BufWriter::new(rt.stderr());
-    for place in execution.malformed.iter() {
+    for place in execution.malformed() {
         writeln!(out, "place {place}: refused 1, malformed order")?;
     }
-    let rest = execution.rest;
+    let rest = execution.rest().len();
     if rest > 0 {
         writeln!(out, "tail: {rest} bytes are no whole order, passed over")?;
     }
-    let done = execution.done;
-    let malformed = execution.malformed.len();
+    let done = execution.done();
+    let malformed = execution.malformed().len();
     writeln!(out, "{done} orders done, {malformed} malformed")?;
     out.flush()?;
     Ok(())

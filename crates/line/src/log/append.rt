@@ -42,16 +42,4 @@ impl Log {
         self.len = place + 1;
         Ok(place)
     }
-
-    pub fn len(&self) -> u32
-        ensures { λ r. ⌜ r ≡ length (frames (vec-items (now (self .entry) .bytes))) ⌝ }
-    {
-        self.len
-    }
-
-    pub fn as_bytes(&self) -> &[u8]
-        ensures { λ r. ⌜ now r ≡ vec-items (now (self .entry) .bytes) ⌝ }
-    {
-        self.bytes.as_slice()
-    }
 }
