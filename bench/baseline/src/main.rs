@@ -1,58 +1,82 @@
-//! `baseline [FILE]`: what `serial` does, to measure against.
+//! `baseline [FILE]`: what `serial` does, by the same way, to measure against.
 
 use std::env;
-use std::fs;
-use std::io::{self, BufWriter, Write};
+use std::fs::File;
+use std::io::{self, BufWriter, Read, Write};
 use std::process::ExitCode;
 
 use baseline::{Order, Values, new_values};
 
+/// How many bytes are read at once.
+const PIECE: usize = 262_144;
+
 fn main() -> ExitCode {
-    let file = env::args_os().nth(1).unwrap_or_else(|| "line".into());
-    let log = match fs::read(&file) {
-        Ok(log) => log,
-        Err(error) => {
-            eprintln!("{}: {error}", file.display());
-            return ExitCode::FAILURE;
-        }
-    };
-    match answer(&log) {
+    let path = env::args_os().nth(1).unwrap_or_else(|| "line".into());
+    match File::open(&path).and_then(answer) {
         Ok(()) => ExitCode::SUCCESS,
         Err(error) => {
-            eprintln!("baseline: {error}");
+            eprintln!("baseline: {}: {error}", path.display());
             ExitCode::FAILURE
         }
     }
 }
 
-fn answer(log: &[u8]) -> io::Result<()> {
-    let mut values = new_values();
-    run(log, &mut values, BufWriter::new(io::stderr().lock()))?;
-    print(&values, BufWriter::with_capacity(1 << 16, io::stdout().lock()))
+fn answer(mut file: File) -> io::Result<()> {
+    let mut execution = Execution::new();
+    let mut room = vec![0; PIECE];
+    loop {
+        let count = file.read(&mut room[execution.kept..])?;
+        if count == 0 {
+            break;
+        }
+        execution.push(&mut room, count);
+    }
+    execution.report(BufWriter::new(io::stderr().lock()))?;
+    print(&execution.values, BufWriter::with_capacity(1 << 16, io::stdout().lock()))
 }
 
-/// Does all orders and reports on them.
-fn run(log: &[u8], values: &mut Values, mut report: impl Write) -> io::Result<()> {
-    let mut order = Order::new();
-    let mut done: u64 = 0;
-    let mut malformed: u64 = 0;
-    let mut rest = log;
-    while let Some((bytes, behind)) = first_order(rest) {
-        rest = behind;
-        if order.decode(bytes).is_some() {
-            order.execute(values);
-            done += 1;
-        } else {
-            let place = done + malformed;
-            writeln!(report, "place {place}: refused 1, malformed order")?;
-            malformed += 1;
+/// What the log came to so far.
+struct Execution {
+    values: Box<Values>,
+    order: Order,
+    done: u64,
+    malformed: Vec<u64>,
+    /// How many bytes at the front of the room are no whole order yet.
+    kept: usize,
+}
+
+impl Execution {
+    fn new() -> Execution {
+        Execution { values: new_values(), order: Order::new(), done: 0, malformed: Vec::new(), kept: 0 }
+    }
+
+    /// Does the orders that are whole with so many bytes more in the room, and moves the others to its front.
+    fn push(&mut self, room: &mut [u8], count: usize) {
+        let end = self.kept + count;
+        let mut rest = &room[..end];
+        while let Some((bytes, behind)) = first_order(rest) {
+            rest = behind;
+            if self.order.decode(bytes).is_some() {
+                self.order.execute(&mut self.values);
+                self.done += 1;
+            } else {
+                self.malformed.push(self.done + self.malformed.len() as u64);
+            }
         }
+        self.kept = rest.len();
+        room.copy_within(end - self.kept..end, 0);
     }
-    if !rest.is_empty() {
-        writeln!(report, "tail: {} bytes are no whole order, passed over", rest.len())?;
+
+    fn report(&self, mut report: impl Write) -> io::Result<()> {
+        for place in &self.malformed {
+            writeln!(report, "place {place}: refused 1, malformed order")?;
+        }
+        if self.kept > 0 {
+            writeln!(report, "tail: {} bytes are no whole order, passed over", self.kept)?;
+        }
+        writeln!(report, "{} orders done, {} malformed", self.done, self.malformed.len())?;
+        report.flush()
     }
-    writeln!(report, "{done} orders done, {malformed} malformed")?;
-    report.flush()
 }
 
 /// The bytes of the first order and what stands behind them.
