@@ -6,3 +6,4 @@ pub mod Promises
 pub mod Deliveries
 pub mod Progress
 pub mod Whole
+pub mod Growth

@@ -26,7 +26,7 @@ use Rattle.protocol.proofs.Slots.{value-from-some, done-before, done-writer, d
 use Rattle.protocol.proofs.Slots.{conflict-read-write, conflict-write-write, conflict-write-read, value-at, knows-right}
 
 -- a function changed at one number, at any
-put-cases : {A : Type 0} (i : ℕ) (x : A) (f : ℕ → A) (j : ℕ) (P : A → Type 0) → (j ≡ i → P x) → ((j ≡ i → ⊥) → P (f j)) → P (put i x f j)
+pub put-cases : {A : Type 0} (i : ℕ) (x : A) (f : ℕ → A) (j : ℕ) (P : A → Type 0) → (j ≡ i → P x) → ((j ≡ i → ⊥) → P (f j)) → P (put i x f j)
 put-cases i x f j P here there = cond-both (eqb j i) x (f j) P (λ e. here (eqb-true j i e)) (λ e. there (eqb-false j i e))
 
 has-append-cases : {X : Type 0} (xs ys : List X) (x : X) → Has (xs ++ ys) x → Has xs x ⊎ Has ys x

@@ -13,11 +13,13 @@
 --   NoGap         of the orders that write a key in a house, those done there are the first so many
 --   ToldStays     as long as some house has not copied beyond an order, what was told of it can be told again, the very same
 --   Promise       all of these, of a net
+--   Agrees        two plans say the same of the orders of a log
+--   Longer        a run over a log is a run over every longer one
 --   Always        of every net that a run over a sound plan comes to; BaseSound: the base is such a plan
 -- Assumes nothing.
 use mathlib.Core.Path.{_≡_}
 use mathlib.Core.Bool.{Bool, true, false}
-use mathlib.Core.List.{List, [], map}
+use mathlib.Core.List.{List, [], _++_, map}
 use Prim.Native.Nat.{ℕ, _<_, _≤_}
 use lib.ListN.{length, take}
 use Rattle.std.specs.shelf.Lists.{All, Has}
@@ -111,3 +113,16 @@ Always P = (os : List Transaction) (p : Plan) (first : ℕ → ℕ) → Sound os
 
 abbrev pub BaseSound : Type 0
 BaseSound = (os : List Transaction) → Sound os (base os)
+
+pub record Agrees (os : List Transaction) (p q : Plan) : Type 0 where
+  pub same-own : (i : ℕ) → i ≤ length os → p .own i ≡ q .own i
+  pub same-need : (i : ℕ) → i < length os → p .need i ≡ q .need i
+  pub same-passable : (h i : ℕ) (s : House) → i < length os → p .passable h s i ≡ q .passable h s i
+
+abbrev pub Longer : Type 0
+Longer =
+    (os more : List Transaction) (p q : Plan) (first : ℕ → ℕ) (ds : List (ℕ × Deed)) (n : Net) → Agrees os p q → Run os p ds (start first) n → Run (os ++ more) q ds (start first) n
+
+-- today's plan over a log and over a longer one
+abbrev pub BaseAgrees : Type 0
+BaseAgrees = (os more : List Transaction) → Agrees os (base os) (base (os ++ more))

@@ -1,5 +1,5 @@
 // What the protocol promises, claimed of every run of the machine in specs/. Nothing here runs: each function stands for a theorem.
-ghost use Rattle.protocol.specs.Promise.{Always, BaseSound, Promise, ReadsRight, EndsRight, AlikeAs, NeverStuck, Nearby, NoRing, NoGap, ToldStays};
+ghost use Rattle.protocol.specs.Promise.{Always, BaseAgrees, BaseSound, Longer, Promise, ReadsRight, EndsRight, AlikeAs, NeverStuck, Nearby, NoRing, NoGap, ToldStays};
 
 // All of the below at once: what the programs' contracts cite.
 pub fn every_run_keeps_the_promise() -> u8
@@ -67,6 +67,14 @@ pub fn no_gap() -> u8
 // As long as some house has not copied beyond an order, what was told of it can be told again, the very same.
 pub fn what_was_told_stays() -> u8
     ensures { λ _. ⌜ Always ToldStays ⌝ }
+{
+    0
+}
+
+// The log only grows: a run over a log is a run over every longer one.
+pub fn the_log_may_grow() -> u8
+    ensures longer { λ _. ⌜ Longer ⌝ }
+    ensures base { λ _. ⌜ BaseAgrees ⌝ }
 {
     0
 }
