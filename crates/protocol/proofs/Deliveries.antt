@@ -14,7 +14,7 @@ use Rattle.std.specs.declared.option.Option.the-variants.{Some, None}
 use Rattle.std.proofs.shelf.Elements.{all-append, all-weaker, has-push}
 use Rattle.std.proofs.shelf.Tests.{false≢true, both-ways, eqb-true, eq-eqb, cases-lt, cases-eq, cond-true, cond-both}
 use Rattle.orders.specs.Transaction.{Transaction, isIn, lookup}
-use Rattle.protocol.specs.Plan.{houses, ownReads}
+use Rattle.protocol.specs.Log.{houses, ownReads}
 use Rattle.protocol.specs.House.{House, Plan}
 use Rattle.protocol.specs.Machine.{Message, told, Deed, grow, look, write, sync, tell, ask, hear, checkpoint, say, drop, crash, calm, plain, put, hears}
 use Rattle.protocol.specs.Machine.{Act, grows, syncs, tells, hears-told, Net, acts, Run, stay, then}

@@ -14,7 +14,7 @@ use Rattle.std.specs.declared.option.Option.the-variants.{Some, None}
 use Rattle.std.proofs.shelf.Lists.{getD-append-left, length-append}
 use Rattle.std.proofs.shelf.Tests.{false≢true, or-from, le-ltb, cases-lt}
 use Rattle.orders.specs.Transaction.{Transaction, lookup, isIn, idle}
-use Rattle.protocol.specs.Plan.{at, some, readsIn, writesIn, ownReads, ownWrites, touches, conflict, effect}
+use Rattle.protocol.specs.Log.{at, some, readsIn, writesIn, ownReads, ownWrites, touches, conflict, effect}
 use Rattle.protocol.specs.House.{House, done, Ready, fromNote, knows, Plan, base}
 use Rattle.protocol.specs.Machine.{Message, Deed, hears, Act, Net, acts, Run, stay, then}
 use Rattle.protocol.specs.Machine.{grows, looks, writes-its, syncs, tells, asks-for, hears-told, hears-copied, checks, says, drops, crashes}

@@ -11,7 +11,7 @@ use Rattle.std.specs.Options.{isSome}
 use Rattle.std.specs.shelf.Lists.{Has}
 use Rattle.std.specs.declared.option.Option.the-variants.{Some, None}
 use Rattle.orders.specs.Transaction.{Transaction}
-use Rattle.protocol.specs.Plan.{houses, stood, readsIn, writesIn, ownReads, reads}
+use Rattle.protocol.specs.Log.{houses, stood, readsIn, writesIn, ownReads, reads}
 use Rattle.protocol.specs.House.{House, done, Plan}
 use Rattle.protocol.specs.Machine.{Message, told, copied, Net}
 

@@ -15,7 +15,7 @@ use Rattle.std.proofs.shelf.Elements.{all-has}
 use Rattle.std.proofs.shelf.Lists.{getD-append-left, getD-append-right, length-append}
 use Rattle.std.proofs.shelf.Tests.{both-ways, eqb-true, eqb-false, cond-true, cond-false, cond-both, cases-eq, cases-lt, cases-bool, or-right, and-parts}
 use Rattle.orders.specs.Transaction.{Transaction, lookup, isIn, leaves, after}
-use Rattle.protocol.specs.Plan.{houses, at, stood, readsIn, writesIn, ownReads, reads, writes, touches, effect}
+use Rattle.protocol.specs.Log.{houses, at, stood, readsIn, writesIn, ownReads, reads, writes, touches, effect}
 use Rattle.protocol.specs.House.{House, fresh, done, Ready, knows, Plan, Sound}
 use Rattle.protocol.specs.Machine.{Message, told, asks, copied, Deed, put, hears, Act, Net, start, Step, acts, Run, stay, then}
 use Rattle.protocol.specs.Machine.{grows, looks, writes-its, syncs, tells, asks-for, hears-told, hears-copied, checks, says, drops, crashes}

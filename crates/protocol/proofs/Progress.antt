@@ -13,7 +13,7 @@ use Rattle.std.specs.declared.option.Option.{Option}
 use Rattle.std.specs.declared.option.Option.the-variants.{Some, None}
 use Rattle.std.proofs.shelf.Tests.{true≢false, false≢true, both-ways, ltb-false, eqb-true, eq-eqb, or-cases, or-parts, or-left, or-right, cases-lt, cases-eq, cases-bool, cond-both}
 use Rattle.orders.specs.Transaction.{Transaction, isIn}
-use Rattle.protocol.specs.Plan.{houses, at, some, writesIn, ownReads, reads, writes, effect}
+use Rattle.protocol.specs.Log.{houses, at, some, writesIn, ownReads, reads, writes, effect}
 use Rattle.protocol.specs.House.{House, done, fromNote, knows, Plan, Sound}
 use Rattle.protocol.specs.Machine.{Deed, look, write, calm, plain, put, looks, writes-its, Net, Step, acts, Run, stay, then}
 use Rattle.protocol.specs.Promise.{quiet, Works, by-look, by-write, NeverStuck, Nearby}

@@ -8,7 +8,7 @@ use native.Mathlib.Omega.{arith}
 use lib.ListN.{length}
 use Rattle.std.proofs.shelf.Tests.{both-ways, cases-lt}
 use Rattle.orders.specs.Transaction.{Transaction, isIn, leaves}
-use Rattle.protocol.specs.Plan.{at, writesIn, ownReads, stood}
+use Rattle.protocol.specs.Log.{at, writesIn, ownReads, stood}
 use Rattle.protocol.specs.House.{done, Plan, Sound}
 use Rattle.protocol.specs.Machine.{Net}
 use Rattle.protocol.specs.Promise.{Phase, looking, writing, Task, Waits, for-turn, for-word, before, ReadsRight, EndsRight, AlikeAs, NoRing, NoGap, ToldStays, BaseSound}

@@ -11,7 +11,7 @@ use Rattle.std.specs.declared.option.Option.{Option}
 use Rattle.std.specs.declared.option.Option.the-variants.{Some, None}
 use Rattle.std.proofs.shelf.Tests.{both-ways, ltb-true, lt-ltb, le-ltb, and-from, or-cases, or-from, or-left, or-right, cond-true, cond-both, cases-lt, cases-bool}
 use Rattle.orders.specs.Transaction.{Transaction, lookup, isIn}
-use Rattle.protocol.specs.Plan.{at, stood, readsIn, writesIn, ownReads, reads, writes, conflict}
+use Rattle.protocol.specs.Log.{at, stood, readsIn, writesIn, ownReads, reads, writes, conflict}
 use Rattle.protocol.specs.House.{House, done, fromNote, knows}
 use Rattle.protocol.proofs.Invariant.{shadow, Settled, Good}
 use Rattle.protocol.proofs.Standing.{ownReads-from-readsIn, lookup-map, shadow-between}

@@ -13,7 +13,7 @@ use Rattle.std.proofs.shelf.Tests.{both-ways, and-parts, and-from, and-cases, o
 use Rattle.orders.specs.Transaction.{Transaction, lookup, written, isIn, after, serial, idle}
 use Rattle.orders.specs.declared.outcome.Outcome.{Outcome}
 use Rattle.orders.specs.declared.outcome.Outcome.the-variants.{Nothing, Writes}
-use Rattle.protocol.specs.Plan.{at, stood, some, readsIn, writesIn, ownReads, ownWrites, reads, writes}
+use Rattle.protocol.specs.Log.{at, stood, some, readsIn, writesIn, ownReads, ownWrites, reads, writes}
 use Rattle.protocol.specs.House.{Plan, Sound}
 use Rattle.protocol.proofs.Invariant.{shadow}
 

@@ -23,7 +23,7 @@ use Rattle.std.specs.Options.{isSome}
 use Rattle.std.specs.declared.option.Option.{Option}
 use Rattle.std.specs.declared.option.Option.the-variants.{Some, None}
 use Rattle.orders.specs.Transaction.{Transaction, lookup, isIn}
-use Rattle.protocol.specs.Plan.{houses, at, writesIn, ownReads, reads, writes, conflict, effect}
+use Rattle.protocol.specs.Log.{houses, at, writesIn, ownReads, reads, writes, conflict, effect}
 
 pub record House : Type 0 where
   pub have : ℕ

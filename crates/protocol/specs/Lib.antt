@@ -1,4 +1,4 @@
-pub mod Plan
+pub mod Log
 pub mod House
 pub mod Machine
 pub mod Promise

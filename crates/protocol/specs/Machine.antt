@@ -19,7 +19,7 @@ use Rattle.std.specs.shelf.Lists.{Has}
 use Rattle.std.specs.declared.option.Option.{Option}
 use Rattle.std.specs.declared.option.Option.the-variants.{Some, None}
 use Rattle.orders.specs.Transaction.{Transaction, lookup, isIn}
-use Rattle.protocol.specs.Plan.{houses, at, writesIn, ownReads, reads, writes, touches, effect}
+use Rattle.protocol.specs.Log.{houses, at, writesIn, ownReads, reads, writes, touches, effect}
 use Rattle.protocol.specs.House.{House, fresh, done, Ready, knows, Plan}
 
 pub data Message : Type 0 where

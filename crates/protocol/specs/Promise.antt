@@ -25,7 +25,7 @@ use lib.ListN.{length, take}
 use Rattle.std.specs.shelf.Lists.{All, Has}
 use Rattle.std.specs.declared.option.Option.the-variants.{Some, None}
 use Rattle.orders.specs.Transaction.{Transaction, isIn, serial}
-use Rattle.protocol.specs.Plan.{houses, at, writesIn, ownReads, conflict}
+use Rattle.protocol.specs.Log.{houses, at, writesIn, ownReads, conflict}
 use Rattle.protocol.specs.House.{House, done, knows, Plan, Sound, base}
 use Rattle.protocol.specs.Machine.{Message, told, Deed, look, write, calm, plain, Net, start, Step, Run}
 
