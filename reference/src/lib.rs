@@ -8,6 +8,7 @@
 //! - [`log`]: how orders lie one behind another in a file
 //! - [`serial`]: what the program `serial` answers to a log
 //! - [`random`] and [`generate`]: random logs from a seed
+//! - [`machine`]: the houses that do a log side by side, in random runs
 //! - [`answer`] and [`compare`]: runs a program on logs and compares its answers
 //!
 //! Nothing but [`serial`] itself knows of that program, so that an
@@ -18,6 +19,7 @@ pub mod compare;
 pub mod execute;
 pub mod generate;
 pub mod log;
+pub mod machine;
 pub mod order;
 pub mod random;
 pub mod serial;
