@@ -1,15 +1,16 @@
 // What an order comes to: its instructions, run on the values that it has read.
 ghost use mathlib.Core.Path.{_≡_};
-ghost use mathlib.Core.Bool.{true};
+ghost use mathlib.Core.Bool.{true, cond};
 ghost use mathlib.Core.List.{List, _∷_, map};
-ghost use Prim.Native.Nat.{_*_, _%_, _^_, _≤_};
+ghost use Prim.Native.Nat.{ℕ, _*_, _%_, _^_, _≤_};
 ghost use lib.ListN.{length};
 ghost use Rattle.orders.specs.Contents.{contentsOf};
 ghost use Rattle.orders.specs.Effect.{OnlyReads, OnlyWrites};
 ghost use Rattle.orders.specs.Meaning.{padded, runFrom, outcomeOf};
 ghost use Rattle.orders.specs.Transaction.{lookup};
-ghost use Rattle.orders.specs.Valid.{fits};
+ghost use Rattle.orders.specs.Valid.{fits, allFit};
 ghost use Rattle.orders.specs.declared.instruction.Instruction.{Instruction as Step};
+ghost use Rattle.orders.specs.declared.outcome.Outcome.the-variants.{Nothing, Writes};
 ghost use Rattle.interpreter.specs.Flow.{goesOn};
 use orders::Instruction;
 use orders::Order;
@@ -28,19 +29,20 @@ pub fn run(order: &Order, values: &[u32]) -> Outcome
     ensures { λ r. ⌜ r ≡ outcomeOf (contentsOf (now (order .entry))) (now (values .entry)) ⌝ }
 {
     let mut registers = loaded(values);
-    let mut written = unsaid(order.reads(), order.writes(), values);
-    let mut skip: u8 = 0;
-    for instruction in order.code() {
-        if skip > 0 {
-            skip -= 1;
-            continue;
-        }
-        match step(*instruction, &mut registers, &mut written) {
-            Flow::Skip(count) => skip = count,
-            Flow::Abort => return Outcome::Nothing,
-        }
+    let mut written = [0; 16];
+    if run_in(order, &mut registers, &mut written) {
+        Outcome::Writes(written)
+    } else {
+        Outcome::Nothing
     }
-    Outcome::Writes(written)
+}
+
+// The same in place, from registers that have the values and then zeros: whether the order writes.
+pub fn run_in(order: &Order, registers: &mut [u32; 32], written: &mut [u32; 16]) -> bool
+    ensures { λ r. ⌜ ((vs : List ℕ) → now (registers .entry) ≡ padded 32 vs → outcomeOf (contentsOf (now (order .entry))) vs ≡ cond r (Writes (now (written .exit))) Nothing) ⌝ }
+{
+    unsaid(order.reads(), order.writes(), registers, written);
+    execute(order.code(), registers, written)
 }
 
 // Claims about every transaction, with nothing to run: it depends on its read set alone, and leaves every key outside its write set as it was.
@@ -51,12 +53,27 @@ pub fn effects_are_local() -> u8
     0
 }
 
-// One instruction: what it does to the registers and to what will be written.
-fn step(instruction: Instruction, registers: &mut [u32; 32], written: &mut [u32; 16]) -> Flow
-    requires { ⌜ fits 16 instruction ≡ true ⌝ }
-    ensures { λ r. ⌜ ((rest : List Step) → runFrom 0 (instruction ∷ rest) (now (registers .entry)) (now (written .entry)) ≡ goesOn r rest (now (registers .exit)) (now (written .exit))) ⌝ }
+// Runs some instructions: whether they come to their end.
+fn execute(code: &[Instruction], registers: &mut [u32; 32], written: &mut [u32; 16]) -> bool
+    requires { ⌜ allFit 16 (now code) ≡ true ⌝ }
+    ensures { λ r. ⌜ runFrom 0 (now (code .entry)) (now (registers .entry)) (now (written .entry)) ≡ cond r (Writes (now (written .exit))) Nothing ⌝ }
 {
-    match instruction {
+    let mut next = 0;
+    while next < code.len() {
+        match step(&code[next], registers, written) {
+            Flow::Skip(count) => next += 1 + usize::from(count),
+            Flow::Abort => return false,
+        }
+    }
+    true
+}
+
+// One instruction: what it does to the registers and to what will be written.
+fn step(instruction: &Instruction, registers: &mut [u32; 32], written: &mut [u32; 16]) -> Flow
+    requires { ⌜ fits 16 (now instruction) ≡ true ⌝ }
+    ensures { λ r. ⌜ ((rest : List Step) → runFrom 0 (now (instruction .entry) ∷ rest) (now (registers .entry)) (now (written .entry)) ≡ goesOn r rest (now (registers .exit)) (now (written .exit))) ⌝ }
+{
+    match *instruction {
         Instruction::Add { to, left, right } => {
             let (left, right) = (registers[left as usize], registers[right as usize]);
             registers[to as usize] = left.wrapping_add(right);
@@ -104,15 +121,14 @@ fn loaded(values: &[u32]) -> [u32; 32]
 }
 
 // What is written to each key before an instruction says otherwise: what was read there, and 0 where it was not read.
-fn unsaid(reads: &[u16], writes: &[u16], values: &[u32]) -> [u32; 16]
+fn unsaid(reads: &[u16], writes: &[u16], values: &[u32; 32], written: &mut [u32; 16])
     requires { ⌜ length (now writes) ≤ 16 ⌝ }
-    ensures { λ r. ⌜ r ≡ padded 16 (map (λ k. lookup (now (reads .entry)) (now (values .entry)) k 0) (now (writes .entry))) ⌝ }
+    ensures { λ _. ⌜ now (written .exit) ≡ padded 16 (map (λ k. lookup (now (reads .entry)) (now (values .entry)) k 0) (now (writes .entry))) ⌝ }
 {
-    let mut written = [0; 16];
+    *written = [0; 16];
     for (i, key) in writes.iter().enumerate() {
         written[i] = value_of(reads, values, *key);
     }
-    written
 }
 
 // The value beside a key, or 0.

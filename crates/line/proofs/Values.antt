@@ -1,14 +1,14 @@
 -- Values read from and written to some keys, one key at a time.
 use mathlib.Core.Path.{_≡_, refl, sym, ap, _∙_}
 use mathlib.Core.Bool.{Bool, true, false, cond, _&&_}
-use mathlib.Core.List.{List, [], _∷_, map}
+use mathlib.Core.List.{List, [], _∷_}
 use mathlib.Core.Logic.{_≢_, ⊎-elim}
 use Prim.Native.Nat.{ℕ, zero, suc, _+_, _<_, _≤_}
 use native.Mathlib.Omega.{arith}
 use native.Mathlib.Numerals.{add-one}
 use lib.Dec.{eqb, leb}
-use lib.ListN.{length, take, drop, getD, set, replicate}
-use Rattle.std.proofs.shelf.Lists.{take-more-set, map-more, drop-more, getD-set-same, getD-set-other, at-drop-all, take-all}
+use lib.ListN.{length, drop, getD, set, replicate}
+use Rattle.std.proofs.shelf.Lists.{drop-more, getD-set-same, getD-set-other}
 use Rattle.std.proofs.shelf.Tests.{and-parts, leb-true, ne-eqb, eq-eqb, cases-eq}
 use Rattle.orders.specs.Transaction.{lookup}
 use Rattle.orders.specs.Valid.{rising}
@@ -17,10 +17,6 @@ pub zeros : (n k : ℕ) → _≡_ {A = ℕ} (getD (replicate n 0) k 0) 0
 zeros zero k = refl
 zeros (suc n) zero = refl
 zeros (suc n) (suc k) = zeros n k
-
--- one value more, read at a key
-pub read-more : (f : ℕ → ℕ) (ks vs : List ℕ) (i v : ℕ) → i < length ks → i < length vs → v ≡ f (getD ks i 0) → take i vs ≡ map f (take i ks) → take (i + 1) (set vs i v) ≡ map f (take (i + 1) ks)
-read-more f ks vs i v hk hv is inv = take-more-set vs i v hv ∙ cc (inv, is, map-more f ks i 0 hk)
 
 -- keys that rise are each above those before
 absent : (low k : ℕ) (xs vs : List ℕ) (d : ℕ) → k < low → rising low xs ≡ true → lookup xs vs k d ≡ d

@@ -10,34 +10,34 @@ use Rattle.std.proofs.shelf.Lists.{take-rest, append-assoc, append-nil}
 use Rattle.std.proofs.shelf.Tests.{le-leb, lt-leb}
 use Rattle.std.specs.declared.option.Option.{Option}
 use Rattle.std.specs.declared.option.Option.the-variants.{Some, None}
-use Rattle.orders.specs.Codec.{Read, anyIn, ofKind, threeIn, setIn, writeIn, andThen, prepend, many, keyIn, only, instructionIn, listIn}
+use Rattle.orders.specs.Codec.{Read, anyIn, ofKind, setIn, writeIn, andThen, prepend, many, keyIn, only, listIn}
 use Rattle.orders.specs.Valid.{fits}
 use Rattle.orders.specs.declared.instruction.Instruction.{Instruction}
-use Rattle.orders.specs.declared.instruction.Instruction.the-variants.{Add, Subtract, Multiply, Divide, Set, SkipIfBelow, Write, Abort}
+use Rattle.orders.specs.declared.instruction.Instruction.the-variants.{Set, Write}
 
 -- what a pattern on the front of a slice reads
 pub any-at : (bs : List ℕ) → 1 ≤ length bs → ofKind (getD bs 0 0) (take (length bs - 1) (drop 1 bs)) ≡ anyIn bs
 any-at [] h = absurd (omega arith)
 any-at (b ∷ bs) h = ap (ofKind b) (take-rest (b ∷ bs) 1)
 
-pub three-at : (f : ℕ → ℕ → ℕ → Instruction) (bs : List ℕ) → 3 ≤ length bs → Some (f (getD bs 0 0) (getD bs 1 0) (getD bs 2 0), take (length bs - 3) (drop 3 bs)) ≡ threeIn f bs
-three-at f [] h = absurd (omega arith)
-three-at f (a ∷ []) h = absurd (omega arith)
-three-at f (a ∷ b ∷ []) h = absurd (omega arith)
-three-at f (a ∷ b ∷ c ∷ bs) h = ap (λ r. Some (f a b c, r)) (take-rest (a ∷ b ∷ c ∷ bs) 3)
+pub three-at : (k : ℕ) (i : Instruction) (bs : List ℕ) → 3 ≤ length bs → ((rest : List ℕ) → ofKind k (getD bs 0 0 ∷ getD bs 1 0 ∷ getD bs 2 0 ∷ rest) ≡ Some (i, rest)) → ofKind k bs ≡ Some (i, take (length bs - 3) (drop 3 bs))
+three-at k i [] h reads = absurd (omega arith)
+three-at k i (a ∷ []) h reads = absurd (omega arith)
+three-at k i (a ∷ b ∷ []) h reads = absurd (omega arith)
+three-at k i (a ∷ b ∷ c ∷ bs) h reads = reads bs ∙ ap (λ r. Some (i, r)) (sym (take-rest (a ∷ b ∷ c ∷ bs) 3))
 
-pub write-at : (bs : List ℕ) → 2 ≤ length bs → Some (Write (getD bs 0 0) (getD bs 1 0), take (length bs - 2) (drop 2 bs)) ≡ writeIn bs
+pub write-at : (bs : List ℕ) → 2 ≤ length bs → writeIn bs ≡ Some (Write (getD bs 0 0) (getD bs 1 0), take (length bs - 2) (drop 2 bs))
 write-at [] h = absurd (omega arith)
 write-at (a ∷ []) h = absurd (omega arith)
-write-at (a ∷ b ∷ bs) h = ap (λ r. Some (Write a b, r)) (take-rest (a ∷ b ∷ bs) 2)
+write-at (a ∷ b ∷ bs) h = ap (λ r. Some (Write a b, r)) (sym (take-rest (a ∷ b ∷ bs) 2))
 
-pub set-at : (bs : List ℕ) (n : ℕ) → 5 ≤ length bs → n ≡ getD bs 1 0 * 16777216 + getD bs 2 0 * 65536 + getD bs 3 0 * 256 + getD bs 4 0 → Some (Set (getD bs 0 0) n, take (length bs - 5) (drop 5 bs)) ≡ setIn bs
+pub set-at : (bs : List ℕ) (n : ℕ) → 5 ≤ length bs → n ≡ getD bs 1 0 * 16777216 + getD bs 2 0 * 65536 + getD bs 3 0 * 256 + getD bs 4 0 → setIn bs ≡ Some (Set (getD bs 0 0) n, take (length bs - 5) (drop 5 bs))
 set-at [] n h e = absurd (omega arith)
 set-at (a ∷ []) n h e = absurd (omega arith)
 set-at (a ∷ p ∷ []) n h e = absurd (omega arith)
 set-at (a ∷ p ∷ q ∷ []) n h e = absurd (omega arith)
 set-at (a ∷ p ∷ q ∷ r ∷ []) n h e = absurd (omega arith)
-set-at (a ∷ p ∷ q ∷ r ∷ s ∷ bs) n h e = ap (λ m. Some (Set a m, take (length (a ∷ p ∷ q ∷ r ∷ s ∷ bs) - 5) bs)) e ∙ ap (λ r′. Some (Set a (p * 16777216 + q * 65536 + r * 256 + s), r′)) (take-rest (a ∷ p ∷ q ∷ r ∷ s ∷ bs) 5)
+set-at (a ∷ p ∷ q ∷ r ∷ s ∷ bs) n h e = ap (λ m. Some (Set a m, bs)) (sym e) ∙ ap (λ r′. Some (Set a n, r′)) (sym (take-rest (a ∷ p ∷ q ∷ r ∷ s ∷ bs) 5))
 
 -- prepending twice is prepending both
 prepend-prepend : {X : Type 0} (xs ys : List X) (r : Read (List X)) → prepend xs (prepend ys r) ≡ prepend (xs ++ ys) r
@@ -103,13 +103,6 @@ key-short [] h = refl
 key-short (a ∷ []) h = refl
 key-short (a ∷ b ∷ bs) h = absurd (omega arith)
 
--- what an instruction that was read comes to, once it is tested
-module _ (w : ℕ) (bs : List ℕ) where
-  pub instruction-none : anyIn bs ≡ None → instructionIn w bs ≡ None
-  instruction-none e = ap (only (fits w)) e
-
-  pub instruction-unfit : (i : Instruction) (after : List ℕ) → anyIn bs ≡ Some (i, after) → fits w i ≡ false → instructionIn w bs ≡ None
-  instruction-unfit i after e f = ap (only (fits w)) e ∙ ap (λ b. cond b (Some (i, after)) None) f
-
-  pub instruction-fit : (i : Instruction) (after : List ℕ) → anyIn bs ≡ Some (i, after) → fits w i ≡ true → instructionIn w bs ≡ Some (i, after)
-  instruction-fit i after e f = ap (only (fits w)) e ∙ ap (λ b. cond b (Some (i, after)) None) f
+-- an instruction that was read, once it is tested
+pub fit-read : (w : ℕ) (r : Read Instruction) (i : Instruction) (after : List ℕ) → r ≡ Some (i, after) → fits w i ≡ true → only (fits w) r ≡ Some (i, after)
+fit-read w r i after e f = ap (only (fits w)) e ∙ ap (λ b. cond b (Some (i, after)) None) f

@@ -3,17 +3,16 @@ ghost use mathlib.Core.Path.{_≡_};
 ghost use mathlib.Core.Bool.{true, false};
 ghost use mathlib.Core.List.{map};
 ghost use Prim.Native.Nat.{ℕ, _≤_};
-ghost use lib.ListN.{length, take};
+ghost use lib.ListN.{length, replicate};
 ghost use Rattle.std.specs.Vec.{made};
 ghost use Rattle.orders.specs.Contents.{contentsOf};
-ghost use Rattle.orders.specs.Meaning.{meaning};
+ghost use Rattle.orders.specs.Meaning.{meaning, padded};
 ghost use Rattle.orders.specs.Transaction.{after, lookup, isIn};
 ghost use Rattle.orders.specs.Valid.{rising};
 ghost use Rattle.line.specs.Serial.{valuesIn};
 use super::Store;
-use interpreter::run;
+use interpreter::run_in;
 use orders::Order;
-use orders::Outcome;
 use std::alloc::AllocError;
 use std::alloc::Global;
 
@@ -37,22 +36,22 @@ impl Store {
         ensures leaves { λ _. ⌜ valuesIn (now (self .exit)) ≡ after (meaning (contentsOf (now (order .entry)))) (valuesIn (now (self .entry))) ⌝ }
         ensures elsewhere { λ _. ⌜ ((k : ℕ) → isIn k (contentsOf (now (order .entry)) .writes) ≡ false → valuesIn (now (self .exit)) k ≡ valuesIn (now (self .entry)) k) ⌝ }
     {
-        let mut read = [0; 16];
-        let keys = order.reads();
-        self.read(keys, &mut read);
-        match run(order, &read[0..keys.len()]) {
-            Outcome::Nothing => {}
-            Outcome::Writes(values) => self.write(order.writes(), &values),
+        let mut registers = [0; 32];
+        self.read(order.reads(), &mut registers);
+        let mut written = [0; 16];
+        if run_in(order, &mut registers, &mut written) {
+            self.write(order.writes(), &written);
         }
     }
 
-    // The values of some keys.
-    fn read(&self, keys: &[u16], read: &mut [u32; 16])
-        requires { ⌜ length (now keys) ≤ 16 ⌝ }
-        ensures { λ _. ⌜ take (length (now (keys .entry))) (now (read .exit)) ≡ map (valuesIn (now (self .entry))) (now (keys .entry)) ⌝ }
+    // The values of some keys, in front of zeros.
+    fn read(&self, keys: &[u16], registers: &mut [u32; 32])
+        requires few { ⌜ length (now keys) ≤ 16 ⌝ }
+        requires zeros { ⌜ now registers ≡ replicate 32 0 ⌝ }
+        ensures { λ _. ⌜ now (registers .exit) ≡ padded 32 (map (valuesIn (now (self .entry))) (now (keys .entry))) ⌝ }
     {
         for i in 0..keys.len() {
-            read[i] = self.values[usize::from(keys[i])];
+            registers[i] = self.values[usize::from(keys[i])];
         }
     }
 

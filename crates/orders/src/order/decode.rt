@@ -1,7 +1,8 @@
 // An order from its bytes.
 ghost use mathlib.Core.Path.{_≡_};
 ghost use mathlib.Core.Bool.{cond};
-ghost use Prim.Native.Nat.{_≤_};
+ghost use mathlib.Core.List.{List, _∷_};
+ghost use Prim.Native.Nat.{ℕ, _≤_};
 ghost use lib.ListN.{length, take};
 ghost use Rattle.std.specs.Options.{mapped, Cases as BySome};
 ghost use Rattle.std.specs.declared.option.Option.the-variants.{Some, None};
@@ -9,11 +10,12 @@ ghost use Rattle.std.specs.Results.{Cases, okPart};
 ghost use Rattle.std.specs.Vec.{refused};
 ghost use Rattle.orders.specs.Contents.{contentsOf, keysOf, nothing};
 ghost use Rattle.orders.specs.Refusals.{numberOf};
-ghost use Rattle.orders.specs.Codec.{encoded, decoded, listIn, keysIn, keyIn, codeIn, ofKind, anyIn};
+ghost use Rattle.orders.specs.Codec.{encoded, decoded, listIn, keysIn, keyIn, codeIn, only, ofKind, instructionIn};
+ghost use Rattle.orders.specs.Valid.{three, fits};
 use super::KeySet;
 use super::Order;
 use super::parts::rises;
-use super::parts::suits;
+use super::parts::three_exist;
 use crate::instruction::Instruction;
 use crate::refusal::Refusal;
 
@@ -123,77 +125,94 @@ fn read_code<'a>(
     }
     let mut rest = rest;
     for i in 0..len {
-        let Some((instruction, after)) = read_instruction(rest) else {
+        let Some(after) = read_instruction(rest, writes, &mut code[i]) else {
             return None;
         };
-        if !suits(instruction, writes) {
-            return None;
-        }
-        code[i] = instruction;
         rest = after;
     }
     Some((len, rest))
 }
 
-// The instruction at the front of the bytes, whatever its registers, and the bytes that follow.
-fn read_instruction(bytes: &[u8]) -> Option<(Instruction, &[u8])>
-    ensures { λ r. ⌜ mapped (λ p. (p .0, now (p .1))) r ≡ anyIn (now (bytes .entry)) ⌝ }
+// Reads the instruction at the front of the bytes, for a write set of so many keys: the bytes that follow.
+fn read_instruction<'a>(bytes: &'a [u8], writes: usize, room: &mut Instruction) -> Option<&'a [u8]>
+    ensures { λ r. ⌜ BySome r (instructionIn writes (now (bytes .entry)) ≡ None) (λ rest. instructionIn writes (now (bytes .entry)) ≡ Some (now (room .exit), now rest)) ⌝ }
 {
     let [kind, rest @ ..] = bytes else {
         return None;
     };
-    read_numbers(*kind, rest)
+    read_numbers(*kind, rest, writes, room)
 }
 
 // The same behind the kind of the instruction.
-fn read_numbers(kind: u8, bytes: &[u8]) -> Option<(Instruction, &[u8])>
-    ensures { λ r. ⌜ mapped (λ p. (p .0, now (p .1))) r ≡ ofKind kind (now (bytes .entry)) ⌝ }
+fn read_numbers<'a>(
+    kind: u8,
+    bytes: &'a [u8],
+    writes: usize,
+    room: &mut Instruction,
+) -> Option<&'a [u8]>
+    ensures { λ r. ⌜ BySome r (only (fits writes) (ofKind kind (now (bytes .entry))) ≡ None) (λ rest. only (fits writes) (ofKind kind (now (bytes .entry))) ≡ Some (now (room .exit), now rest)) ⌝ }
 {
+    if 1 <= kind && kind <= 4 {
+        let &[to, left, right, ref rest @ ..] = bytes else {
+            return None;
+        };
+        if !three_exist(to, left, right) {
+            return None;
+        }
+        put_arithmetic(kind, to, left, right, room);
+        return Some(rest);
+    }
     match kind {
-        1 => {
-            let &[to, left, right, ref rest @ ..] = bytes else {
-                return None;
-            };
-            Some((Instruction::Add { to, left, right }, rest))
-        }
-        2 => {
-            let &[to, left, right, ref rest @ ..] = bytes else {
-                return None;
-            };
-            Some((Instruction::Subtract { to, left, right }, rest))
-        }
-        3 => {
-            let &[to, left, right, ref rest @ ..] = bytes else {
-                return None;
-            };
-            Some((Instruction::Multiply { to, left, right }, rest))
-        }
-        4 => {
-            let &[to, left, right, ref rest @ ..] = bytes else {
-                return None;
-            };
-            Some((Instruction::Divide { to, left, right }, rest))
-        }
         5 => {
             let &[to, a, b, c, d, ref rest @ ..] = bytes else {
                 return None;
             };
+            if to >= 32 {
+                return None;
+            }
             let number = u32::from_be_bytes([a, b, c, d]);
-            Some((Instruction::Set { to, number }, rest))
+            *room = Instruction::Set { to, number };
+            Some(rest)
         }
         6 => {
             let &[left, right, count, ref rest @ ..] = bytes else {
                 return None;
             };
-            Some((Instruction::SkipIfBelow { left, right, count }, rest))
+            if left >= 32 || right >= 32 {
+                return None;
+            }
+            *room = Instruction::SkipIfBelow { left, right, count };
+            Some(rest)
         }
         7 => {
             let &[slot, from, ref rest @ ..] = bytes else {
                 return None;
             };
-            Some((Instruction::Write { slot, from }, rest))
+            if usize::from(slot) >= writes || from >= 32 {
+                return None;
+            }
+            *room = Instruction::Write { slot, from };
+            Some(rest)
         }
-        8 => Some((Instruction::Abort, bytes)),
+        8 => {
+            *room = Instruction::Abort;
+            Some(bytes)
+        }
         _ => None,
+    }
+}
+
+// The instruction of one of the four kinds that work out a register from two others.
+fn put_arithmetic(kind: u8, to: u8, left: u8, right: u8, room: &mut Instruction)
+    requires { ⌜ 1 ≤ kind ⌝ ∗ ⌜ kind ≤ 4 ⌝ }
+    ensures reads { λ _. ⌜ ((rest : List ℕ) → ofKind kind (to ∷ left ∷ right ∷ rest) ≡ Some (now (room .exit), rest)) ⌝ }
+    ensures fit { λ _. ⌜ ((w : ℕ) → fits w (now (room .exit)) ≡ three to left right) ⌝ }
+{
+    match kind {
+        1 => *room = Instruction::Add { to, left, right },
+        2 => *room = Instruction::Subtract { to, left, right },
+        3 => *room = Instruction::Multiply { to, left, right },
+        4 => *room = Instruction::Divide { to, left, right },
+        _ => unreachable(),
     }
 }

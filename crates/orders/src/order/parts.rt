@@ -8,7 +8,7 @@ ghost use Rattle.std.specs.Options.{Cases as BySome};
 ghost use Rattle.std.specs.Results.{Cases};
 ghost use Rattle.orders.specs.Contents.{contentsOf, keysOf, keySet, nothing, valid};
 ghost use Rattle.orders.specs.Refusals.{numberOf};
-ghost use Rattle.orders.specs.Valid.{rising, fits, allFit};
+ghost use Rattle.orders.specs.Valid.{rising, three, fits, allFit};
 use super::KeySet;
 use super::Order;
 use crate::instruction::Instruction;
@@ -153,10 +153,10 @@ pub fn suits(instruction: Instruction, writes: usize) -> bool
     ensures { λ r. ⌜ r ≡ fits writes instruction ⌝ }
 {
     match instruction {
-        Instruction::Add { to, left, right } => to < 32 && left < 32 && right < 32,
-        Instruction::Subtract { to, left, right } => to < 32 && left < 32 && right < 32,
-        Instruction::Multiply { to, left, right } => to < 32 && left < 32 && right < 32,
-        Instruction::Divide { to, left, right } => to < 32 && left < 32 && right < 32,
+        Instruction::Add { to, left, right } => three_exist(to, left, right),
+        Instruction::Subtract { to, left, right } => three_exist(to, left, right),
+        Instruction::Multiply { to, left, right } => three_exist(to, left, right),
+        Instruction::Divide { to, left, right } => three_exist(to, left, right),
         Instruction::Set { to, number: _ } => to < 32,
         Instruction::SkipIfBelow {
             left,
@@ -166,4 +166,11 @@ pub fn suits(instruction: Instruction, writes: usize) -> bool
         Instruction::Write { slot, from } => usize::from(slot) < writes && from < 32,
         Instruction::Abort => true,
     }
+}
+
+// Whether three registers exist.
+pub fn three_exist(a: u8, b: u8, c: u8) -> bool
+    ensures { λ r. ⌜ r ≡ three a b c ⌝ }
+{
+    a < 32 && b < 32 && c < 32
 }

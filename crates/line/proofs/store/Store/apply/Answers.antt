@@ -1,8 +1,5 @@
-use mathlib.Core.Path.{_≡_, refl, ap, _∙_}
+use mathlib.Core.Path.{_≡_, refl, sym, ap, _∙_}
 use mathlib.Core.List.{map}
-use Prim.Native.Nat.{_-_}
-use native.Mathlib.Omega.{arith}
-use lib.ListN.{length, take}
 use Rattle.orders.specs.Contents.{contentsOf}
 use Rattle.orders.specs.Meaning.{meaning}
 use Rattle.orders.specs.Transaction.{after, lookup}
@@ -11,24 +8,19 @@ use Rattle.interpreter.proofs.Effect.{only-writes}
 use Rattle.line.specs.Serial.{valuesIn}
 use Rattle.line.proofs.Applied.{applied}
 use Rattle.line.proofs.store.Store.apply.Needs as need
-use Rattle.line.proofs.store.Store.apply.Needs.{After-run}
 
--- what was read is what stands in the read set
-read-is : (c : After-run) → take (length (c .reads-keys .result .now) - 0) (c .read .last .read) ≡ map (valuesIn (c .args .self .now)) (contentsOf (c .args .order .now) .reads)
-read-is c =
-    ap (λ n. take n (c .read .last .read)) (omega arith) ∙ c .read .ensures ∙ ap (map (valuesIn (c .args .self .now))) (c .reads-keys .ensures .is)
-
-pub returns-in-Nothing : need.returns-in-Nothing
-returns-in-Nothing c =
+pub returns-else-run-in : need.returns-else-run-in
+returns-else-run-in c =
     record {
-      leaves = applied (contentsOf (c .args .order .now)) (valuesIn (c .args .self .now)) (valuesIn (c .args .self .now)) _ Nothing (c .in-Nothing .ensures tt) (read-is (need.at·returns-in-Nothing c .After-run)) (λ k. refl);
+      leaves = applied (contentsOf (c .args .order .now)) (valuesIn (c .args .self .now)) (valuesIn (c .args .self .now)) _ Nothing
+          (sym (c .if-run-in .ensures tt (map (valuesIn (c .args .self .now)) (c .reads .result .now)) (c .read .ensures))) (ap (map (valuesIn (c .args .self .now))) (c .reads .ensures .is)) (λ k. refl);
       elsewhere = λ k h. refl;
     }
 
-pub returns-in-Writes : need.returns-in-Writes
-returns-in-Writes c =
+pub returns-then-run-in : need.returns-then-run-in
+returns-then-run-in c =
     let left : valuesIn (c .write .last .self) ≡ after (meaning (contentsOf (c .args .order .now))) (valuesIn (c .args .self .now)) =
-    applied (contentsOf (c .args .order .now)) (valuesIn (c .args .self .now)) (valuesIn (c .write .last .self)) _ (Writes (c .in-Writes .values)) (c .in-Writes .ensures tt)
-    (read-is (need.at·returns-in-Writes c .After-run))
-    (λ k. c .write .ensures k ∙ ap (λ ws. lookup ws (c .in-Writes .values) k (valuesIn (c .args .self .now) k)) (c .writes .ensures .is)) in
+    applied (contentsOf (c .args .order .now)) (valuesIn (c .args .self .now)) (valuesIn (c .write .last .self)) _ (Writes (c .run-in .last .written))
+    (sym (c .if-run-in .ensures tt (map (valuesIn (c .args .self .now)) (c .reads .result .now)) (c .read .ensures))) (ap (map (valuesIn (c .args .self .now))) (c .reads .ensures .is))
+    (λ k. c .write .ensures k ∙ ap (λ ws. lookup ws (c .run-in .last .written) k (valuesIn (c .args .self .now) k)) (c .writes .ensures .is)) in
     record { leaves = left; elsewhere = λ k h. ap (λ s. s k) left ∙ only-writes (meaning (contentsOf (c .args .order .now))) (valuesIn (c .args .self .now)) k h }

@@ -1,4 +1,4 @@
-use mathlib.Core.Path.{_≡_, sym, ap, _∙_}
+use mathlib.Core.Path.{_≡_, ap, _∙_}
 use mathlib.Core.List.{List, []}
 use Prim.Native.Nat.{_+_, _-_}
 use native.Mathlib.Omega.{arith}
@@ -7,7 +7,7 @@ use lib.ListN.{take, drop}
 use Rattle.std.proofs.shelf.Lists.{take-rest, take-more-set, length-set}
 use Rattle.std.specs.declared.option.Option.the-variants.{Some}
 use Rattle.orders.specs.Codec.{instructionIn, many, prepend}
-use Rattle.orders.proofs.Codec.{many-first, many-more, many-none, many-all, list-within, instruction-none, instruction-unfit, instruction-fit}
+use Rattle.orders.proofs.Codec.{many-first, many-more, many-none, many-all, list-within}
 use Rattle.orders.proofs.order.decode.read_code.Needs as need
 
 pub loop-i-holds : need.loop-i-holds
@@ -21,24 +21,15 @@ pub returns-in-rest-read-instruction : need.returns-in-rest-read-instruction
 returns-in-rest-read-instruction c =
     list-within 64 (instructionIn (c .args .writes)) (c .args .bytes .now) (c .from-len .result) (omega (arith, ltb-false)) (c .from-len .ensures) (c .if-len-gt64 .left)
     ∙ many-none (instructionIn (c .args .writes)) (take (c .loop-i .i) (c .loop-i .code)) (c .from-len .result) (c .loop-i .i) (c .loop-i .rest .now) _ (c .loop-i-test .taken)
-    (instruction-none (c .args .writes) (c .loop-i .rest .now) (sym (c .in-rest-read-instruction .ensures tt))) (c .loop-i .inv .1)
-
-pub returns-then-not-suits : need.returns-then-not-suits
-returns-then-not-suits c =
-    list-within 64 (instructionIn (c .args .writes)) (c .args .bytes .now) (c .from-len .result) (omega (arith, ltb-false)) (c .from-len .ensures) (c .if-len-gt64 .left)
-    ∙ many-none (instructionIn (c .args .writes)) (take (c .loop-i .i) (c .loop-i .code)) (c .from-len .result) (c .loop-i .i) (c .loop-i .rest .now) _ (c .loop-i-test .taken)
-    (instruction-unfit (c .args .writes) (c .loop-i .rest .now) (c .in-Some .instruction) (c .in-Some .after .now) (sym (c .in-Some .ensures tt)) (sym (c .if-not-suits .ensures tt)))
-    (c .loop-i .inv .1)
+    (c .in-rest-read-instruction .ensures tt) (c .loop-i .inv .1)
 
 pub loop-i-again : need.loop-i-again
 loop-i-again c = (
-  length-set (c .loop-i .code) (c .loop-i .i) (c .in-Some .instruction) ∙ c .loop-i .inv .0,
+  length-set (c .loop-i .code) (c .loop-i .i) (c .read-instruction .last .room) ∙ c .loop-i .inv .0,
   ap (λ is. prepend is (many (instructionIn (c .args .writes)) (c .from-len .result - (c .loop-i .i + 1)) (c .in-Some .after .now)))
-      (take-more-set (c .loop-i .code) (c .loop-i .i) (c .in-Some .instruction) (omega arith))
+      (take-more-set (c .loop-i .code) (c .loop-i .i) (c .read-instruction .last .room) (omega arith))
       ∙ many-more (instructionIn (c .args .writes)) (take (c .loop-i .i) (c .loop-i .code)) (c .from-len .result) (c .loop-i .i) (c .loop-i .rest .now) _
-      (c .in-Some .instruction) (c .in-Some .after .now) (c .loop-i-test .taken)
-      (instruction-fit (c .args .writes) (c .loop-i .rest .now) (c .in-Some .instruction) (c .in-Some .after .now) (sym (c .in-Some .ensures tt)) (sym (c .if-not-suits .ensures tt)))
-      (c .loop-i .inv .1),
+      (c .read-instruction .last .room) (c .in-Some .after .now) (c .loop-i-test .taken) (c .in-Some .ensures tt) (c .loop-i .inv .1),
 )
 
 pub returns : need.returns
