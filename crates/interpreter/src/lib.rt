@@ -1,6 +1,6 @@
 // What an order comes to: its instructions, run on the values that it has read.
 ghost use mathlib.Core.Path.{_≡_};
-ghost use mathlib.Core.Bool.{true, cond};
+ghost use mathlib.Core.Bool.{true};
 ghost use mathlib.Core.List.{List, _∷_, map};
 ghost use Prim.Native.Nat.{ℕ, _*_, _%_, _^_, _≤_};
 ghost use lib.ListN.{length};
@@ -10,8 +10,7 @@ ghost use Rattle.orders.specs.Meaning.{padded, runFrom, outcomeOf};
 ghost use Rattle.orders.specs.Transaction.{lookup};
 ghost use Rattle.orders.specs.Valid.{fits, allFit};
 ghost use Rattle.orders.specs.declared.instruction.Instruction.{Instruction as Step};
-ghost use Rattle.orders.specs.declared.outcome.Outcome.the-variants.{Nothing, Writes};
-ghost use Rattle.interpreter.specs.Flow.{goesOn};
+ghost use Rattle.interpreter.specs.Flow.{goesOn, endedBy};
 use orders::Instruction;
 use orders::Order;
 use orders::Outcome;
@@ -24,22 +23,27 @@ enum Flow {
     Abort,
 }
 
+// How an order ends, where what it writes stands beside.
+pub enum Ending {
+    Writes,
+    Nothing,
+}
+
 // Runs the order on the values of its read set, in the order of its keys. A value that is not given is 0.
 pub fn run(order: &Order, values: &[u32]) -> Outcome
     ensures { λ r. ⌜ r ≡ outcomeOf (contentsOf (now (order .entry))) (now (values .entry)) ⌝ }
 {
     let mut registers = loaded(values);
     let mut written = [0; 16];
-    if run_in(order, &mut registers, &mut written) {
-        Outcome::Writes(written)
-    } else {
-        Outcome::Nothing
+    match run_in(order, &mut registers, &mut written) {
+        Ending::Writes => Outcome::Writes(written),
+        Ending::Nothing => Outcome::Nothing,
     }
 }
 
-// The same in place, from registers that have the values and then zeros: whether the order writes.
-pub fn run_in(order: &Order, registers: &mut [u32; 32], written: &mut [u32; 16]) -> bool
-    ensures { λ r. ⌜ ((vs : List ℕ) → now (registers .entry) ≡ padded 32 vs → outcomeOf (contentsOf (now (order .entry))) vs ≡ cond r (Writes (now (written .exit))) Nothing) ⌝ }
+// The same in place, from registers that have the values and then zeros.
+pub fn run_in(order: &Order, registers: &mut [u32; 32], written: &mut [u32; 16]) -> Ending
+    ensures { λ r. ⌜ ((vs : List ℕ) → now (registers .entry) ≡ padded 32 vs → outcomeOf (contentsOf (now (order .entry))) vs ≡ endedBy r (now (written .exit))) ⌝ }
 {
     unsaid(order.reads(), order.writes(), registers, written);
     execute(order.code(), registers, written)
@@ -53,19 +57,19 @@ pub fn effects_are_local() -> u8
     0
 }
 
-// Runs some instructions: whether they come to their end.
-fn execute(code: &[Instruction], registers: &mut [u32; 32], written: &mut [u32; 16]) -> bool
+// Runs some instructions.
+fn execute(code: &[Instruction], registers: &mut [u32; 32], written: &mut [u32; 16]) -> Ending
     requires { ⌜ allFit 16 (now code) ≡ true ⌝ }
-    ensures { λ r. ⌜ runFrom 0 (now (code .entry)) (now (registers .entry)) (now (written .entry)) ≡ cond r (Writes (now (written .exit))) Nothing ⌝ }
+    ensures { λ r. ⌜ runFrom 0 (now (code .entry)) (now (registers .entry)) (now (written .entry)) ≡ endedBy r (now (written .exit)) ⌝ }
 {
     let mut next = 0;
     while next < code.len() {
         match step(&code[next], registers, written) {
             Flow::Skip(count) => next += 1 + usize::from(count),
-            Flow::Abort => return false,
+            Flow::Abort => return Ending::Nothing,
         }
     }
-    true
+    Ending::Writes
 }
 
 // One instruction: what it does to the registers and to what will be written.

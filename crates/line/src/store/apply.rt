@@ -11,6 +11,7 @@ ghost use Rattle.orders.specs.Transaction.{after, lookup, isIn};
 ghost use Rattle.orders.specs.Valid.{rising};
 ghost use Rattle.line.specs.Serial.{valuesIn};
 use super::Store;
+use interpreter::Ending;
 use interpreter::run_in;
 use orders::Order;
 use std::alloc::AllocError;
@@ -39,8 +40,9 @@ impl Store {
         let mut registers = [0; 32];
         self.read(order.reads(), &mut registers);
         let mut written = [0; 16];
-        if run_in(order, &mut registers, &mut written) {
-            self.write(order.writes(), &written);
+        match run_in(order, &mut registers, &mut written) {
+            Ending::Writes => self.write(order.writes(), &written),
+            Ending::Nothing => {}
         }
     }
 
