@@ -8,7 +8,7 @@ use std::process::ExitCode;
 use baseline::{Order, Values, new_values};
 
 /// How many bytes are read at once.
-const PIECE: usize = 262_144;
+const PIECE: usize = 131_072;
 
 fn main() -> ExitCode {
     let path = env::args_os().nth(1).unwrap_or_else(|| "line".into());

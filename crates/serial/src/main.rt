@@ -13,7 +13,7 @@ use std::io::Read;
 use std::io::Write;
 
 // How many bytes are read at once.
-const PIECE: usize = 262_144;
+const PIECE: usize = 131_072;
 
 const HELP: &str = "serial [FILE]
 
