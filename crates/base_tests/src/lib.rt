@@ -1,4 +1,6 @@
 // Examples of orders, of what they come to, and of the log.
+#![tactic(auto)]
+
 #[cfg(test)]
 mod tests {
     use interpreter::run;

@@ -1,4 +1,6 @@
 // What an order comes to: its instructions, run on the values that it has read.
+#![tactic(auto)]
+
 ghost use Rattle.std.specs.Prelude.{◌≡◌, ℕ, ◌*◌, ◌%◌, ◌^◌, ◌≤◌, true, List, ◌∷◌, map, length};
 ghost use Rattle.orders.specs.Contents.{contents_of};
 ghost use Rattle.orders.specs.Effect.{OnlyReads, OnlyWrites};

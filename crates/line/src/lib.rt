@@ -1,4 +1,6 @@
 // The log: its bytes, how it grows, and what doing its orders one after the other leaves.
+#![tactic(auto)]
+
 mod frames;
 mod log;
 mod serial;

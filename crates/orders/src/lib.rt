@@ -1,4 +1,6 @@
 // Orders, the transactions that the log lists: their type, their bytes and, in specs/, what they mean.
+#![tactic(auto)]
+
 mod instruction;
 mod order;
 mod outcome;

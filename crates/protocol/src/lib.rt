@@ -1,4 +1,6 @@
 // What the protocol promises, claimed of every run of the machine in specs/. Nothing here runs: each function stands for a theorem.
+#![tactic(auto)]
+
 ghost use Rattle.protocol.specs.Cases.{TableHolds};
 ghost use Rattle.protocol.specs.Promise.{Always, BaseAgrees, BaseSound, Longer, Promise, ReadsRight, EndsRight, AlikeAs, NeverStuck, Nearby, NoRing, NoGap, ToldStays};
 

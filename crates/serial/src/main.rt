@@ -1,4 +1,6 @@
 // `serial [FILE]`: does the orders of a log one by one and prints the values that they leave.
+#![tactic(auto)]
+
 mod row;
 
 use anyhow::anyhow;

@@ -1,4 +1,6 @@
 // One house of sixteen: its ledger, and which looks and writes may be done now.
+#![tactic(auto)]
+
 mod house;
 mod task;
 

@@ -1,4 +1,6 @@
 // `solo HOUSE LINE SCRIPT`: plays a script on one house.
+#![tactic(auto)]
+
 mod bench;
 mod pieces;
 mod play;

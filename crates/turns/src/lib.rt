@@ -1,4 +1,6 @@
 // Whose turn it is in a house: for each of its keys the queue of the undone orders that touch it.
+#![tactic(auto)]
+
 mod entry;
 mod error;
 mod places;

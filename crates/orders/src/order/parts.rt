@@ -60,7 +60,7 @@ impl Order {
 
     // The order with these keys and instructions, refused where there is no such order.
     pub fn new(reads: &[u16], writes: &[u16], code: &[Instruction]) -> Result<Order, Refusal>
-        ensures { MatchResult result (λ o. ((contents_of o).reads ≡ reads.entry.now) × ((contents_of o).writes ≡ writes.now) × ((contents_of o).code ≡ code.now)) (λ e. (number_of e ≡ 1) × (valid (record { reads = reads.entry.now; writes = writes.now; code = code.now }) ≡ false)) }
+        ensures { MatchResult result (λ o. ((contents_of o).reads ≡ reads.now) × ((contents_of o).writes ≡ writes.now) × ((contents_of o).code ≡ code.now)) (λ e. (number_of e ≡ 1) × (valid (record { reads = reads.now; writes = writes.now; code = code.now }) ≡ false)) }
     {
         let Some(reads) = KeySet::new(reads) else {
             return Err(Refusal::Malformed);

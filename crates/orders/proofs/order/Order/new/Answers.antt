@@ -4,15 +4,13 @@ use Rattle.orders.specs.Valid.{all_fit}
 use Rattle.orders.proofs.Encode.{front}
 use Rattle.orders.proofs.order.Order.new.Goals as goal
 
-pub invariant-of-result : goal.invariant-of-result
-invariant-of-result c = (
-  c.if-len-gt64.false,
-  (
-    ap (all_fit (length (keys_of c.in-Some-new.writes))) (front c.copy-from-slice.new.self _ c.args.code.now c.copy-from-slice.ensures.after)
-        ∙ ap (λ ks. all_fit (length ks) c.args.code.now) (sym c.as-slice.ensures) ∙ sym c.if-not-all-suit.ensures,
-    tt,
-  ),
-)
+pub invariant_of-result : goal.invariant_of-result
+invariant_of-result c =
+    record {
+      few = c.if-len-gt64.false;
+      fits = ap (all_fit (length (keys_of c.in-Some-new.writes))) (front c.copy_from_slice.new.self _ c.args.code.now c.copy_from_slice.ensures.after)
+        ∙ ap (λ ks. all_fit (length ks) c.args.code.now) (sym c.as_slice.ensures) ∙ sym c.if-not-all_suit.ensures;
+    }
 
 pub returns : goal.returns
-returns c = (c.in-Some.ensures, c.in-Some-new.ensures, front c.copy-from-slice.new.self _ c.args.code.now c.copy-from-slice.ensures.after)
+returns c = (c.in-Some.ensures, c.in-Some-new.ensures, front c.copy_from_slice.new.self _ c.args.code.now c.copy_from_slice.ensures.after)

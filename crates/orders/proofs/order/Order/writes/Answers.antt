@@ -6,7 +6,7 @@ use Rattle.orders.proofs.order.Order.writes.Goals as goal
 pub returns : goal.returns
 returns c =
     record {
-      is = c.as-slice.ensures;
-      few = let e = ap length c.as-slice.ensures in let k = keys_few c.args.self.now.writes in omega arith;
-      rises = ap (rising 0) c.as-slice.ensures ∙ c.args.self.now.writes.rises;
+      is = c.as_slice.ensures;
+      few = let e = ap length c.as_slice.ensures in let k = keys_few c.args.self.now.writes in omega arith;
+      rises = ap (rising 0) c.as_slice.ensures ∙ c.args.self.now.writes.rises;
     }

@@ -11,19 +11,19 @@ loop-i-init c = (
       ∙ many_first (instruction_in c.args.writes) c.from-len.result (drop 1 c.args.bytes.now),
 )
 
-pub returns-in-default-read-instruction : goal.returns-in-default-read-instruction
-returns-in-default-read-instruction c =
+pub returns-in_default-read_instruction : goal.returns-in_default-read_instruction
+returns-in_default-read_instruction c =
     list_within 64 (instruction_in c.args.writes) c.args.bytes.now c.from-len.result (omega (arith, ltb-false)) c.from-len.ensures c.if-len-gt64.false
     ∙ many_none (instruction_in c.args.writes) (take c.loop-i.i c.loop-i.code) c.from-len.result c.loop-i.i c.loop-i.rest.now _ c.loop-i-test.true
-    c.in-default-read-instruction.ensures c.loop-i.invariant.1
+    c.in_default-read_instruction.ensures c.loop-i.invariant.1
 
 pub loop-i-preserved : goal.loop-i-preserved
 loop-i-preserved c = (
-  length-set c.loop-i.code c.loop-i.i c.read-instruction.new.room ∙ c.loop-i.invariant.0,
+  length-set c.loop-i.code c.loop-i.i c.read_instruction.new.room ∙ c.loop-i.invariant.0,
   ap (λ is. prepend is (many (instruction_in c.args.writes) (c.from-len.result - (c.loop-i.i + 1)) c.in-Some.after.now))
-      (take_more_set c.loop-i.code c.loop-i.i c.read-instruction.new.room (omega arith))
+      (take_more_set c.loop-i.code c.loop-i.i c.read_instruction.new.room (omega arith))
       ∙ many_more (instruction_in c.args.writes) (take c.loop-i.i c.loop-i.code) c.from-len.result c.loop-i.i c.loop-i.rest.now _
-      c.read-instruction.new.room c.in-Some.after.now c.loop-i-test.true c.in-Some.ensures c.loop-i.invariant.1,
+      c.read_instruction.new.room c.in-Some.after.now c.loop-i-test.true c.in-Some.ensures c.loop-i.invariant.1,
 )
 
 pub returns : goal.returns

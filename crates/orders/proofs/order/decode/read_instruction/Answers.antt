@@ -11,4 +11,4 @@ read_as (Some t) f e h = sym e ∙ h
 
 pub returns : goal.returns
 returns c =
-    read_as c.read-numbers.result (λ t. (c.read-numbers.new.room, t.now)) (ap (only (fits c.args.writes)) (any_at c.args.bytes.now (omega (arith, ltb-false)))) c.read-numbers.ensures
+    read_as c.read_numbers.result (λ t. (c.read_numbers.new.room, t.now)) (ap (only (fits c.args.writes)) (any_at c.args.bytes.now (omega (arith, ltb-false)))) c.read_numbers.ensures

@@ -11,12 +11,12 @@ at_kind k bs r is e = ap (λ j. of_kind j bs) is ∙ e
 
 pub returns-then-kind-le4 : goal.returns-then-kind-le4
 returns-then-kind-le4 c =
-    fit_read c.args.writes _ _ _ (three_at c.args.kind c.put-arithmetic.new.room c.args.bytes.now (omega (arith, ltb-false)) c.put-arithmetic.ensures.reads)
-    (c.put-arithmetic.ensures.fit c.args.writes ∙ sym c.if-not-three-exist.ensures)
+    fit_read c.args.writes _ _ _ (three_at c.args.kind c.put_arithmetic.new.room c.args.bytes.now (omega (arith, ltb-false)) c.put_arithmetic.ensures.reads)
+    (c.put_arithmetic.ensures.fit c.args.writes ∙ sym c.if-not-three_exist.ensures)
 
 pub returns-else-to-ge32 : goal.returns-else-to-ge32
 returns-else-to-ge32 c =
-    fit_read c.args.writes _ _ _ (at_kind 5 c.args.bytes.now _ c.in-5.is (set_at c.args.bytes.now c.from-be-bytes-number.result (omega (arith, ltb-false)) c.from-be-bytes-number.ensures))
+    fit_read c.args.writes _ _ _ (at_kind 5 c.args.bytes.now _ c.in-5.is (set_at c.args.bytes.now c.from_be_bytes-number.result (omega (arith, ltb-false)) c.from_be_bytes-number.ensures))
     (lt-ltb _ 32 c.if-to-ge32.false)
 
 pub returns-else-right-ge32 : goal.returns-else-right-ge32

@@ -6,10 +6,10 @@ use Rattle.orders.proofs.order.encode.write_code.Goals as goal
 
 pub loop-instruction-preserved : goal.loop-instruction-preserved
 loop-instruction-preserved c =
-    written_more instruction_bytes c.args.code.now c.loop-instruction.instruction-index (vec_items c.push.new.self) (vec_items c.write-instruction.new.out)
-    (vec_items c.loop-instruction.out) _ c.loop-instruction-test.true c.loop-instruction.invariant c.in-ok-write-instruction.ensures
+    written_more instruction_bytes c.args.code.now c.loop-instruction.instruction-index (vec_items c.push.new.self) (vec_items c.write_instruction.new.out)
+    (vec_items c.loop-instruction.out) _ c.loop-instruction-test.true c.loop-instruction.invariant c.in_ok-write_instruction.ensures
 
 pub returns : goal.returns
 returns c =
-    let h = pushed (length c.args.code.now ∷ []) refl c.in-ok-push.was c.push.ensures.items in
+    let h = pushed (length c.args.code.now ∷ []) refl c.in_ok-push.was c.push.ensures.items in
     written_all instruction_bytes c.args.code.now c.loop-instruction.instruction-index (vec_items c.args.out.now) (vec_items c.push.new.self) (vec_items c.loop-instruction.out) c.loop-instruction-test.false h c.loop-instruction.invariant
