@@ -45,7 +45,7 @@ pub returns-in-Divide : goal.returns-in-Divide
 unfolding run_from
 returns-in-Divide c rest =
     at_kind c.args.registers.now c.args.written.now c.in-Divide.is rest
-    ∙ ap (λ n. run_from 0 rest (set c.args.registers.now c.in-Divide.to n) c.args.written.now) (divided _ _ c.checked-div.result c.checked-div.ensures ∙ sym c.unwrap-or.ensures)
+    ∙ ap (λ n. run_from 0 rest (set c.args.registers.now c.in-Divide.to n) c.args.written.now) (divided _ _ c.checked_div.result c.checked_div.ensures ∙ sym c.unwrap_or.ensures)
 
 pub returns-in-Set : goal.returns-in-Set
 unfolding run_from

@@ -22,7 +22,7 @@ loop-at-preserved c =
     (omega arith, rising_from (suc c.args.place) (c.loop-at.at - 1) c.index-before.result.now (vec_items c.args.places.now) c.requires (omega arith) c.index-before.ensures (omega arith))
 
 -- what stands before the place is below it
-below : (c : goal.In-ok-insert) (k : ℕ) → k + 1 ≡ c.loop-at.at → get_or (vec_items c.args.places.now) k 0 < c.args.place
+below : (c : goal.In_ok-insert) (k : ℕ) → k + 1 ≡ c.loop-at.at → get_or (vec_items c.args.places.now) k 0 < c.args.place
 below c k e =
     elim c.loop-at-test.branch [
       | else-loop-at-test w ↦ absurd (omega (arith, w.loop-at-test.false))
@@ -37,8 +37,8 @@ below c k e =
 pub returns : goal.returns
 returns c =
     record {
-      has = λ x. ap (is_in x) c.in-ok-insert.ensures.items ∙ in_inserted x c.loop-at.at c.args.place (vec_items c.args.places.now);
-      rises = ap (rising 0) c.in-ok-insert.ensures.items
+      has = λ x. ap (is_in x) c.in_ok-insert.ensures.items ∙ in_inserted x c.loop-at.at c.args.place (vec_items c.args.places.now);
+      rises = ap (rising 0) c.in_ok-insert.ensures.items
           ∙ rising_inserted 0 c.loop-at.at c.args.place (vec_items c.args.places.now) c.requires (λ e. omega arith) (below c) (omega arith) c.loop-at.invariant.1;
       wanting = tt;
     }

@@ -61,34 +61,19 @@ invariant-of-self-2 c =
     let n' : count_of c.append.new.self ≡ count_of s.turns + 1 = c.append.new.self.done.ok.0 ∙ done_longer s bs b more in
     let noted : vec_len c.push-reserved.new.self ≡ count_of s.turns + 1 = c.push-reserved.new.self.ok.0 ∙ looked_longer s bs b more in
     let h = s.number in
-    let o = lists_of s in (
-      s.housed,
-      (
-        s.sized,
-        (
-          orders_longer s bs b more ∙ sym n',
-          (
-            slots_longer s bs b more ∙ sym n',
-            (
-              noted ∙ sym n',
-              (
-                matched_grown h bs (count_of s.turns) o b more s.matched,
-                (
-                  wide_grown h bs (count_of s.turns) o b more s.wide,
-                  (
-                    filled_grown h bs (count_of s.turns) o b more s.filled,
-                    (
-                      seen_grown h bs (count_of s.turns) o b more s.seen,
-                      (read_grown h bs (count_of s.turns) o b more (vec_len s.looked) (vec_len c.push-reserved.new.self) s.noted noted s.read, tt),
-                    ),
-                  ),
-                ),
-              ),
-            ),
-          ),
-        ),
-      ),
-    )
+    let o = lists_of s in
+    record {
+      housed = s.housed;
+      sized = s.sized;
+      ordered = orders_longer s bs b more ∙ sym n';
+      slotted = slots_longer s bs b more ∙ sym n';
+      noted = noted ∙ sym n';
+      matched = matched_grown h bs (count_of s.turns) o b more s.matched;
+      wide = wide_grown h bs (count_of s.turns) o b more s.wide;
+      filled = filled_grown h bs (count_of s.turns) o b more s.filled;
+      seen = seen_grown h bs (count_of s.turns) o b more s.seen;
+      read = read_grown h bs (count_of s.turns) o b more (vec_len s.looked) (vec_len c.push-reserved.new.self) s.noted noted s.read;
+    }
 
 pub returns : goal.returns
 returns c =

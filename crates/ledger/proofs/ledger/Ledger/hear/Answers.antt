@@ -19,37 +19,19 @@ invariant-of-self c =
     c.if-from-self.false (sym c.if-not-touches.ensures) (sym c.if-is-empty.ensures) (sym c.if-has-told.ensures) (keys c.reads-2.result.now c.reads-2.ensures.is) c.row.ensures in
     let rows = c.keep.ensures
     ∙ ap (λ ks. set (rows_of c.args.self.now.slots) c.args.place (telling c.args.from ks c.args.values.now (slots_at c.args.self.now c.args.place)))
-    (keys c.reads-3.result.now c.reads-3.ensures.is) in (
-      c.args.self.now.housed,
-      (
-        c.args.self.now.sized,
-        (
-          c.args.self.now.ordered,
-          (
-            ap (λ l. length l) rows ∙ length-set (rows_of c.args.self.now.slots) c.args.place _ ∙ c.args.self.now.slotted,
-            (
-              c.args.self.now.noted,
-              (
-                c.args.self.now.matched,
-                (
-                  wide_after c.args.self.now c.args.from c.args.place c.args.values.now wanted needed (rows_of c.keep.new.slots) rows,
-                  (
-                    filled_after c.args.self.now c.args.from c.args.place c.args.values.now wanted needed (rows_of c.keep.new.slots) rows,
-                    (
-                      c.args.self.now.seen,
-                      (
-                        c.args.self.now.read,
-                        tt,
-                      ),
-                    ),
-                  ),
-                ),
-              ),
-            ),
-          ),
-        ),
-      ),
-    )
+    (keys c.reads-3.result.now c.reads-3.ensures.is) in
+    record {
+      housed = c.args.self.now.housed;
+      sized = c.args.self.now.sized;
+      ordered = c.args.self.now.ordered;
+      slotted = ap (λ l. length l) rows ∙ length-set (rows_of c.args.self.now.slots) c.args.place _ ∙ c.args.self.now.slotted;
+      noted = c.args.self.now.noted;
+      matched = c.args.self.now.matched;
+      wide = wide_after c.args.self.now c.args.from c.args.place c.args.values.now wanted needed (rows_of c.keep.new.slots) rows;
+      filled = filled_after c.args.self.now c.args.from c.args.place c.args.values.now wanted needed (rows_of c.keep.new.slots) rows;
+      seen = c.args.self.now.seen;
+      read = c.args.self.now.read;
+    }
 
 pub returns : goal.returns
 returns c =

@@ -15,74 +15,38 @@ invariant-of-self c =
     let keys = c.reads.ensures.is ∙ ap (λ x. x.reads) c.order-order.ensures ∙ reads_in (get_or (rows_of c.args.self.now.orders) c.args.place []) in
     let rows = row_is c.args.self.now c.args.place may c.reads.result.now c.as-slice.result.now keys c.as-slice.ensures.value (rows_of c.take-note-note.new.slots) c.take-note-note.ensures.slots in
     let done = looked_only c.args.self.now c.args.place c.if-not-writes.ensures (vec_items c.finish.new.self.done) c.finish.ensures.done in
-    let same = sym (same_count c.args.self.now.turns c.finish.new.self c.finish.ensures.marks) in (
-      c.args.self.now.housed,
-      (
-        c.args.self.now.sized,
-        (
-          c.args.self.now.ordered ∙ same,
-          (
-            ap (λ l. length l) rows ∙ length-set (rows_of c.args.self.now.slots) c.args.place _ ∙ c.args.self.now.slotted ∙ same,
-            (
-              c.args.self.now.noted ∙ same,
-              (
-                matched_again c.args.self.now c.args.place may c.finish.new.self c.finish.ensures.marks done,
-                (
-                  wide_again c.args.self.now c.args.place may (rows_of c.take-note-note.new.slots) rows,
-                  (
-                    filled_again c.args.self.now c.args.place may (rows_of c.take-note-note.new.slots) rows,
-                    (
-                      seen_again c.args.self.now c.args.place may c.finish.new.self c.finish.ensures.marks done,
-                      (
-                        read_again c.args.self.now c.args.place may c.finish.new.self c.finish.ensures.marks done,
-                        tt,
-                      ),
-                    ),
-                  ),
-                ),
-              ),
-            ),
-          ),
-        ),
-      ),
-    )
+    let same = sym (same_count c.args.self.now.turns c.finish.new.self c.finish.ensures.marks) in
+    record {
+      housed = c.args.self.now.housed;
+      sized = c.args.self.now.sized;
+      ordered = c.args.self.now.ordered ∙ same;
+      slotted = ap (λ l. length l) rows ∙ length-set (rows_of c.args.self.now.slots) c.args.place _ ∙ c.args.self.now.slotted ∙ same;
+      noted = c.args.self.now.noted ∙ same;
+      matched = matched_again c.args.self.now c.args.place may c.finish.new.self c.finish.ensures.marks done;
+      wide = wide_again c.args.self.now c.args.place may (rows_of c.take-note-note.new.slots) rows;
+      filled = filled_again c.args.self.now c.args.place may (rows_of c.take-note-note.new.slots) rows;
+      seen = seen_again c.args.self.now c.args.place may c.finish.new.self c.finish.ensures.marks done;
+      read = read_again c.args.self.now c.args.place may c.finish.new.self c.finish.ensures.marks done;
+    }
 
 pub invariant-of-self-else-not-writes : goal.invariant-of-self-else-not-writes
 invariant-of-self-else-not-writes c =
     let may : may_look c.args.self.now c.args.place ≡ true = sym c.if-not-may-look.ensures.is in
     let keys = c.reads.ensures.is ∙ ap (λ x. x.reads) c.order-order.ensures ∙ reads_in (get_or (rows_of c.args.self.now.orders) c.args.place []) in
     let rows = row_is c.args.self.now c.args.place may c.reads.result.now c.as-slice.result.now keys c.as-slice.ensures.value (rows_of c.take-note-note.new.slots) c.take-note-note.ensures.slots in
-    let done = looked_and_writes c.args.self.now c.args.place c.if-not-writes.ensures in (
-      c.args.self.now.housed,
-      (
-        c.args.self.now.sized,
-        (
-          c.args.self.now.ordered,
-          (
-            ap (λ l. length l) rows ∙ length-set (rows_of c.args.self.now.slots) c.args.place _ ∙ c.args.self.now.slotted,
-            (
-              c.args.self.now.noted,
-              (
-                c.args.self.now.matched,
-                (
-                  wide_again c.args.self.now c.args.place may (rows_of c.take-note-note.new.slots) rows,
-                  (
-                    filled_again c.args.self.now c.args.place may (rows_of c.take-note-note.new.slots) rows,
-                    (
-                      seen_again c.args.self.now c.args.place may c.args.self.now.turns refl done,
-                      (
-                        read_again c.args.self.now c.args.place may c.args.self.now.turns refl done,
-                        tt,
-                      ),
-                    ),
-                  ),
-                ),
-              ),
-            ),
-          ),
-        ),
-      ),
-    )
+    let done = looked_and_writes c.args.self.now c.args.place c.if-not-writes.ensures in
+    record {
+      housed = c.args.self.now.housed;
+      sized = c.args.self.now.sized;
+      ordered = c.args.self.now.ordered;
+      slotted = ap (λ l. length l) rows ∙ length-set (rows_of c.args.self.now.slots) c.args.place _ ∙ c.args.self.now.slotted;
+      noted = c.args.self.now.noted;
+      matched = c.args.self.now.matched;
+      wide = wide_again c.args.self.now c.args.place may (rows_of c.take-note-note.new.slots) rows;
+      filled = filled_again c.args.self.now c.args.place may (rows_of c.take-note-note.new.slots) rows;
+      seen = seen_again c.args.self.now c.args.place may c.args.self.now.turns refl done;
+      read = read_again c.args.self.now c.args.place may c.args.self.now.turns refl done;
+    }
 
 pub returns-then-not-writes : goal.returns-then-not-writes
 returns-then-not-writes c =

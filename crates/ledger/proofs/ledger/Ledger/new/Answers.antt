@@ -15,34 +15,19 @@ invariant-of-result c =
     let marks_are = c.in-ok-turns.ensures.marks in
     let done_is = c.in-ok-turns.ensures.done in
     let none : count_of c.in-ok-turns.turns ≡ 0 = c.in-ok-turns.turns.done.ok.0 ∙ ap length done_is in
-    let h = c.args.number in (
-      omega arith,
-      (
-        search rules,
-        (
-          ap length c.new-2.ensures ∙ sym none,
-          (
-            ap length c.new-3.ensures ∙ sym none,
-            (
-              c.new-4.ensures.len ∙ sym none,
-              (
-                matched_at_first h os ms ss ds ls c.new-2.ensures marks_are c.new-3.ensures done_is c.new-4.ensures.items,
-                (
-                  wide_at_first h os ms ss ds ls c.new-2.ensures marks_are c.new-3.ensures done_is c.new-4.ensures.items,
-                  (
-                    λ i e. absurd (both_ways (get_or ls i false) (ap (λ l. get_or l i false) c.new-4.ensures.items) e),
-                    (
-                      seen_at_first h os ms ss ds ls c.new-2.ensures marks_are c.new-3.ensures done_is c.new-4.ensures.items,
-                      (λ i lt _. absurd (omega (arith, c.new-4.ensures.len)), tt),
-                    ),
-                  ),
-                ),
-              ),
-            ),
-          ),
-        ),
-      ),
-    )
+    let h = c.args.number in
+    record {
+      housed = omega arith;
+      sized = search rules;
+      ordered = ap length c.new-2.ensures ∙ sym none;
+      slotted = ap length c.new-3.ensures ∙ sym none;
+      noted = c.new-4.ensures.len ∙ sym none;
+      matched = matched_at_first h os ms ss ds ls c.new-2.ensures marks_are c.new-3.ensures done_is c.new-4.ensures.items;
+      wide = wide_at_first h os ms ss ds ls c.new-2.ensures marks_are c.new-3.ensures done_is c.new-4.ensures.items;
+      filled = λ i e. absurd (both_ways (get_or ls i false) (ap (λ l. get_or l i false) c.new-4.ensures.items) e);
+      seen = seen_at_first h os ms ss ds ls c.new-2.ensures marks_are c.new-3.ensures done_is c.new-4.ensures.items;
+      read = λ i lt _. absurd (omega (arith, c.new-4.ensures.len));
+    }
 
 pub returns : goal.returns
 returns c =

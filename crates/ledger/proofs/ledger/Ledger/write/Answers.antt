@@ -10,16 +10,22 @@ use Rattle.ledger.proofs.ledger.Ledger.write.Goals.{in-Writes, in-Nothing}
 pub invariant-of-self : goal.invariant-of-self
 invariant-of-self c =
     let may : may_write c.args.self.now c.args.place ≡ true = sym c.if-not-may-write.ensures.is in
-    let still = count_still c.args.self.now c.args.place may c.finish.new.self c.finish.ensures.marks c.finish.ensures.done in (
-      c.args.self.now.housed,
-      (
-        elim c.match-run-in.branch [
-          | in-Writes w ↦ ap (λ x. vec_len x.1.1.1.1.0) w.self-is ∙ w.put.ensures.len
-          | in-Nothing w ↦ ap (λ x. vec_len x.1.1.1.1.0) w.self-is ∙ w.put-back.ensures.len
-        ],
-        (c.args.self.now.ordered ∙ sym still, (c.args.self.now.slotted ∙ sym still, (c.args.self.now.noted ∙ sym still, (matched_still c.args.self.now c.args.place may c.finish.new.self c.finish.ensures.marks c.finish.ensures.done, (c.args.self.now.wide, (c.args.self.now.filled, (seen_still c.args.self.now c.args.place may c.finish.new.self c.finish.ensures.marks c.finish.ensures.done, (read_still c.args.self.now c.args.place may c.finish.new.self c.finish.ensures.marks c.finish.ensures.done, tt)))))))),
-      ),
-    )
+    let still = count_still c.args.self.now c.args.place may c.finish.new.self c.finish.ensures.marks c.finish.ensures.done in
+    record {
+      housed = c.args.self.now.housed;
+      sized = elim c.match-run-in.branch [
+        | in-Writes w ↦ ap (λ x. vec_len x.1.1.1.1.0) w.self-is ∙ w.put.ensures.len
+        | in-Nothing w ↦ ap (λ x. vec_len x.1.1.1.1.0) w.self-is ∙ w.put-back.ensures.len
+      ];
+      ordered = c.args.self.now.ordered ∙ sym still;
+      slotted = c.args.self.now.slotted ∙ sym still;
+      noted = c.args.self.now.noted ∙ sym still;
+      matched = matched_still c.args.self.now c.args.place may c.finish.new.self c.finish.ensures.marks c.finish.ensures.done;
+      wide = c.args.self.now.wide;
+      filled = c.args.self.now.filled;
+      seen = seen_still c.args.self.now c.args.place may c.finish.new.self c.finish.ensures.marks c.finish.ensures.done;
+      read = read_still c.args.self.now c.args.place may c.finish.new.self c.finish.ensures.marks c.finish.ensures.done;
+    }
 
 pub returns : goal.returns
 returns c =

@@ -8,7 +8,7 @@ pub returns-in-Ok : goal.returns-in-Ok
 returns-in-Ok c =
     record {
       does = one_formed c.args.order.now (values_in c.args.self.now.store) c.args.self.now.done (vec_items c.args.self.now.malformed)
-          (values_in c.apply.new.self) (contents_of c.decode-into.new.self) c.in-Ok.ensures.finds c.apply.ensures.leaves;
+          (values_in c.apply.new.self) (contents_of c.decode_into.new.self) c.in-Ok.ensures.finds c.apply.ensures.leaves;
       room = refl;
     }
 
@@ -16,6 +16,6 @@ pub returns-in-Err : goal.returns-in-Err
 returns-in-Err c =
     record {
       does = one_malformed c.args.order.now (values_in c.args.self.now.store) c.args.self.now.done (vec_items c.args.self.now.malformed)
-          c.args.place (vec_items c.push-reserved.new.self) c.in-Err.ensures.finds c.requires.0 c.push-reserved.ensures.items;
-      room = c.push-reserved.ensures.capacity;
+          c.args.place (vec_items c.push_reserved.new.self) c.in-Err.ensures.finds c.requires.0 c.push_reserved.ensures.items;
+      room = c.push_reserved.ensures.capacity;
     }

@@ -19,7 +19,7 @@ returns-in-Nothing c =
 pub returns-in-Writes : goal.returns-in-Writes
 returns-in-Writes c =
     let left : values_in c.write.new.self ≡ after (meaning (contents_of c.args.order.now)) (values_in c.args.self.now) =
-    applied (contents_of c.args.order.now) (values_in c.args.self.now) (values_in c.write.new.self) _ (Writes c.run-in.new.written)
+    applied (contents_of c.args.order.now) (values_in c.args.self.now) (values_in c.write.new.self) _ (Writes c.run_in.new.written)
     (sym (c.in-Writes.ensures (map (values_in c.args.self.now) c.reads.result.now) c.read.ensures)) (ap (map (values_in c.args.self.now)) c.reads.ensures.is)
-    (λ k. c.write.ensures k ∙ ap (λ ws. lookup ws c.run-in.new.written k (values_in c.args.self.now k)) c.writes.ensures.is) in
+    (λ k. c.write.ensures k ∙ ap (λ ws. lookup ws c.run_in.new.written k (values_in c.args.self.now k)) c.writes.ensures.is) in
     record { leaves = left; elsewhere = λ k h. ap (λ s. s k) left ∙ only_writes (meaning (contents_of c.args.order.now)) (values_in c.args.self.now) k h }

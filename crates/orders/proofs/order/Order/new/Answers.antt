@@ -9,7 +9,7 @@ invariant_of-result c =
     record {
       few = c.if-len-gt64.false;
       fits = ap (all_fit (length (keys_of c.in-Some-new.writes))) (front c.copy_from_slice.new.self _ c.args.code.now c.copy_from_slice.ensures.after)
-        ∙ ap (λ ks. all_fit (length ks) c.args.code.now) (sym c.as_slice.ensures) ∙ sym c.if-not-all_suit.ensures;
+          ∙ ap (λ ks. all_fit (length ks) c.args.code.now) (sym c.as_slice.ensures) ∙ sym c.if-not-all_suit.ensures;
     }
 
 pub returns : goal.returns

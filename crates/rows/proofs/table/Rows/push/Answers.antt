@@ -3,18 +3,18 @@ use Rattle.std.proofs.lemmas.Slice.{pushed}
 use Rattle.rows.proofs.Block.{pushed_rises, pushed_rows}
 use Rattle.rows.proofs.table.Rows.push.Goals as goal
 
-pub invariant-of-self-2 : goal.invariant-of-self-2
-invariant-of-self-2 g c = (
-  pushed_rises c.args.self.now c.extend-from-slice.new.self c.push-reserved.new.self c.args.row.now
-      (pushed c.args.row.now refl c.in-ok-extend-from-slice.was c.extend-from-slice.ensures.items) (cc),
-  tt,
-)
+pub invariant_of-self-2 : goal.invariant_of-self-2
+invariant_of-self-2 g c =
+    record {
+      held = pushed_rises c.args.self.now c.extend_from_slice.new.self c.push_reserved.new.self c.args.row.now
+          (pushed c.args.row.now refl c.in_ok-extend_from_slice.was c.extend_from_slice.ensures.items) (cc);
+    }
 
 pub returns : goal.returns
 returns g c = record {
   pushed =
-      pushed_rows c.args.self.now c.extend-from-slice.new.self c.push-reserved.new.self c.args.row.now
-      (pushed c.args.row.now refl c.in-ok-extend-from-slice.was c.extend-from-slice.ensures.items) (cc);
+      pushed_rows c.args.self.now c.extend_from_slice.new.self c.push_reserved.new.self c.args.row.now
+      (pushed c.args.row.now refl c.in_ok-extend_from_slice.was c.extend_from_slice.ensures.items) (cc);
   wanting = tt;
   succeeds = λ _. refl;
 }

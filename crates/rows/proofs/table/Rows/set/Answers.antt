@@ -6,11 +6,11 @@ use Rattle.rows.proofs.table.Rows.set.Goals as goal
 pub returns-then-index-len : goal.returns-then-index-len
 returns-then-index-len g c = sym (no_row_set c.args.self.now c.args.index (set (get_or (rows_of c.args.self.now) c.args.index []) c.args.at c.args.item) (omega arith))
 
-pub overflow-sub-index : goal.overflow-sub-index
-overflow-sub-index g c = start_to_end c.args.self.now c.start-start.ensures c.index.ensures (omega arith)
+pub overflow_sub-index : goal.overflow_sub-index
+overflow_sub-index g c = start_to_end c.args.self.now c.start-start.ensures c.index.ensures (omega arith)
 
-pub index-mut-requires : goal.index-mut-requires
-index-mut-requires g c =
+pub index_mut-requires : goal.index_mut-requires
+index_mut-requires g c =
     let e = end_in_block c.args.self.now c.start-start.ensures c.index.ensures (omega arith) in
     omega (arith, c.args.self.now.items.ok.0)
 

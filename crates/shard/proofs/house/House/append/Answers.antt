@@ -11,13 +11,11 @@ pub invariant-of-self-in-Break·-branch-2 : goal.invariant-of-self-in-Break·-br
 invariant-of-self-in-Break·-branch-2 c =
     let s = c.args.self.now.ledger in
     let s' = c.append.new.self in
-    let same = c.in-err-place.ensures.0 in (
-      ap distinct c.reserve.ensures.items ∙ c.args.self.now.once,
-      (
-        λ t. (λ x. has t (c.reserve.ensures.items x) && same_live s s' same t x) ∙ c.args.self.now.listed t ∙ sym (same_may s s' same t),
-        tt,
-      ),
-    )
+    let same = c.in-err-place.ensures.0 in
+    record {
+      once = ap distinct c.reserve.ensures.items ∙ c.args.self.now.once;
+      listed = λ t. (λ x. has t (c.reserve.ensures.items x) && same_live s s' same t x) ∙ c.args.self.now.listed t ∙ sym (same_may s s' same t);
+    }
 
 pub returns-in-err-place : goal.returns-in-err-place
 returns-in-err-place c =
@@ -40,10 +38,11 @@ invariant-of-self-2 c =
     let raw = deque_items c.args.self.now.tasks in
     let raw' = deque_items c.list.new.tasks in
     let fresh = tasks_at s' (count_of s.turns ∷ []) in
-    let change = change_order s s' c.args.bytes.now c.in-ok-place.ensures.1 in (
-      once_after s s' raw raw' fresh change (extended c) c.args.self.now.listed c.args.self.now.once,
-      (listed_after s s' raw raw' fresh change (extended c) c.args.self.now.listed, tt),
-    )
+    let change = change_order s s' c.args.bytes.now c.in-ok-place.ensures.1 in
+    record {
+      once = once_after s s' raw raw' fresh change (extended c) c.args.self.now.listed c.args.self.now.once;
+      listed = listed_after s s' raw raw' fresh change (extended c) c.args.self.now.listed;
+    }
 
 pub returns : goal.returns
 returns c =

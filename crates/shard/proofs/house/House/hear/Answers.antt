@@ -18,10 +18,11 @@ invariant-of-self-then-may-write c =
     let raw = deque_items c.args.self.now.tasks in
     let raw' = deque_items c.push-back-reserved.new.self in
     let is : raw' ≡ raw ++ Write c.args.place ∷ [] = c.push-back-reserved.ensures.items ∙ ap (λ ts. ts ++ Write c.args.place ∷ []) c.reserve.ensures.items in
-    let change = change_told_last s s' c.args.from c.args.place c.args.values.now c.in-ok-hear.ensures (sym c.if-may-write.ensures.is) in (
-      once_after s s' raw raw' (Write c.args.place ∷ []) change is c.args.self.now.listed c.args.self.now.once,
-      (listed_after s s' raw raw' (Write c.args.place ∷ []) change is c.args.self.now.listed, tt),
-    )
+    let change = change_told_last s s' c.args.from c.args.place c.args.values.now c.in-ok-hear.ensures (sym c.if-may-write.ensures.is) in
+    record {
+      once = once_after s s' raw raw' (Write c.args.place ∷ []) change is c.args.self.now.listed c.args.self.now.once;
+      listed = listed_after s s' raw raw' (Write c.args.place ∷ []) change is c.args.self.now.listed;
+    }
 
 pub invariant-of-self-else-may-write : goal.invariant-of-self-else-may-write
 invariant-of-self-else-may-write c =
@@ -30,10 +31,11 @@ invariant-of-self-else-may-write c =
     let raw = deque_items c.args.self.now.tasks in
     let raw' = deque_items c.reserve.new.self in
     let is : raw' ≡ raw ++ [] = c.reserve.ensures.items ∙ sym (append-nil raw) in
-    let change = change_told s s' c.args.from c.args.place c.args.values.now c.in-ok-hear.ensures (sym c.if-may-write.ensures.is) in (
-      once_after s s' raw raw' [] change is c.args.self.now.listed c.args.self.now.once,
-      (listed_after s s' raw raw' [] change is c.args.self.now.listed, tt),
-    )
+    let change = change_told s s' c.args.from c.args.place c.args.values.now c.in-ok-hear.ensures (sym c.if-may-write.ensures.is) in
+    record {
+      once = once_after s s' raw raw' [] change is c.args.self.now.listed c.args.self.now.once;
+      listed = listed_after s s' raw raw' [] change is c.args.self.now.listed;
+    }
 
 pub returns-then-may-write : goal.returns-then-may-write
 returns-then-may-write c =

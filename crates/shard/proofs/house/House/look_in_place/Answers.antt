@@ -17,10 +17,11 @@ invariant-of-self-then-touches c =
     let raw = deque_items c.args.self.now.tasks in
     let raw' = deque_items c.list.new.tasks in
     let fresh = tasks_at s' (c.args.place ∷ []) in
-    let change = change_look_writer s s' c.args.place (values_of c.in-ok-note.note) c.in-ok-note.ensures (sym c.if-touches.ensures) in (
-      once_after s s' raw raw' fresh change (extended c) c.args.self.now.listed c.args.self.now.once,
-      (listed_after s s' raw raw' fresh change (extended c) c.args.self.now.listed, tt),
-    )
+    let change = change_look_writer s s' c.args.place (values_of c.in-ok-note.note) c.in-ok-note.ensures (sym c.if-touches.ensures) in
+    record {
+      once = once_after s s' raw raw' fresh change (extended c) c.args.self.now.listed c.args.self.now.once;
+      listed = listed_after s s' raw raw' fresh change (extended c) c.args.self.now.listed;
+    }
 
 pub returns-then-touches : goal.returns-then-touches
 returns-then-touches c =
@@ -63,10 +64,11 @@ invariant-of-self-2 c =
     let raw = deque_items c.args.self.now.tasks in
     let raw' = deque_items c.list-all.new.tasks in
     let woken = vec_items c.in-ok-woken.woken in
-    let change = change_look_done s s' c.args.place (values_of c.in-ok-note-2.note) c.in-ok-note-2.ensures (sym c.if-touches.ensures) woken c.in-ok-woken.ensures.woken in (
-      once_after s s' raw raw' (tasks_at s' woken) change (woken_behind c) c.args.self.now.listed c.args.self.now.once,
-      (listed_after s s' raw raw' (tasks_at s' woken) change (woken_behind c) c.args.self.now.listed, tt),
-    )
+    let change = change_look_done s s' c.args.place (values_of c.in-ok-note-2.note) c.in-ok-note-2.ensures (sym c.if-touches.ensures) woken c.in-ok-woken.ensures.woken in
+    record {
+      once = once_after s s' raw raw' (tasks_at s' woken) change (woken_behind c) c.args.self.now.listed c.args.self.now.once;
+      listed = listed_after s s' raw raw' (tasks_at s' woken) change (woken_behind c) c.args.self.now.listed;
+    }
 
 pub returns : goal.returns
 returns c =

@@ -43,10 +43,11 @@ popped_from c = then_first c ∙ ap (λ ts. c.in-Some.task ∷ ts) (sym c.pop-fr
 
 pub invariant-of-self : goal.invariant-of-self
 invariant-of-self c =
-    let h = c.if-is-live.self in (
-      distinct_without h.ledger c.in-Some.task (deque_items h.tasks) (deque_items c.pop-front.new.self) (popped_from c) (gone c) h.once,
-      (listed_without h.ledger c.in-Some.task (deque_items h.tasks) (deque_items c.pop-front.new.self) (popped_from c) (gone c) h.listed, tt),
-    )
+    let h = c.if-is-live.self in
+    record {
+      once = distinct_without h.ledger c.in-Some.task (deque_items h.tasks) (deque_items c.pop-front.new.self) (popped_from c) (gone c) h.once;
+      listed = listed_without h.ledger c.in-Some.task (deque_items h.tasks) (deque_items c.pop-front.new.self) (popped_from c) (gone c) h.listed;
+    }
 
 pub returns : goal.returns
 returns c = inr (

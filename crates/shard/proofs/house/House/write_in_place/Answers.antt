@@ -34,10 +34,11 @@ invariant-of-self-2 c =
     let raw = deque_items c.args.self.now.tasks in
     let raw' = deque_items c.list-all.new.tasks in
     let woken = vec_items c.in-ok-woken.woken in
-    let change = change_write s s' c.args.place c.in-ok-outcome.outcome c.in-ok-outcome.ensures woken c.in-ok-woken.ensures.woken in (
-      once_after s s' raw raw' (tasks_at s' woken) change (extended c) c.args.self.now.listed c.args.self.now.once,
-      (listed_after s s' raw raw' (tasks_at s' woken) change (extended c) c.args.self.now.listed, tt),
-    )
+    let change = change_write s s' c.args.place c.in-ok-outcome.outcome c.in-ok-outcome.ensures woken c.in-ok-woken.ensures.woken in
+    record {
+      once = once_after s s' raw raw' (tasks_at s' woken) change (extended c) c.args.self.now.listed c.args.self.now.once;
+      listed = listed_after s s' raw raw' (tasks_at s' woken) change (extended c) c.args.self.now.listed;
+    }
 
 pub returns : goal.returns
 returns c =

@@ -5,8 +5,8 @@ use Rattle.turns.proofs.queue.Queue.push.Goals as goal
 pub returns : goal.returns
 returns c =
     record {
-      pushed = ap (drop c.args.self.now.head) c.push-reserved.ensures.items
+      pushed = ap (drop c.args.self.now.head) c.push_reserved.ensures.items
           ∙ drop-append-le c.args.self.now.head (vec_items c.args.self.now.items) (c.args.entry ∷ []) (omega arith);
-      len = c.push-reserved.ensures.len;
-      capacity = c.push-reserved.ensures.capacity;
+      len = c.push_reserved.ensures.len;
+      capacity = c.push_reserved.ensures.capacity;
     }

@@ -24,7 +24,7 @@ loop-at-preserved c =
       | then-entry-place-2 w ↦ subst (Again c) (sym w.self-is) (
         omega arith,
         taken_out c.args.place c.loop-at.self.head c.loop-at.at (vec_items c.loop-at.self.items) c.loop-at.invariant.0 c.index-entry.result.now (omega arith) c.index-entry.ensures
-            (vec_items w.copy-within.new.self) (c.loop-at.at - c.loop-at.self.head) w.copy-within.ensures.items refl w.if-entry-place-2.true
+            (vec_items w.copy_within.new.self) (c.loop-at.at - c.loop-at.self.head) w.copy_within.ensures.items refl w.if-entry-place-2.true
             ∙ c.loop-at.invariant.1,
       )
       | else-entry-place-2 w ↦ subst (Again c) (sym w.self-is) (

@@ -6,8 +6,8 @@ pub returns : goal.returns
 returns c =
     record {
       same = c.truncate.ensures.items
-          ∙ ap (take (c.len.result - c.args.self.now.head)) c.copy-within.ensures.items
+          ∙ ap (take (c.len.result - c.args.self.now.head)) c.copy_within.ensures.items
           ∙ moved_down (vec_items c.args.self.now.items) c.args.self.now.head (c.len.result - c.args.self.now.head) (vec_len c.args.self.now.items - c.args.self.now.head) (omega arith) (omega arith) (omega arith);
-      capacity = c.truncate.ensures.capacity ∙ c.copy-within.ensures.capacity;
+      capacity = c.truncate.ensures.capacity ∙ c.copy_within.ensures.capacity;
       shorter = omega arith;
     }

@@ -6,25 +6,19 @@ use Rattle.turns.specs.Entries.{entries_in}
 use Rattle.turns.proofs.Coming.{queued_once_come}
 use Rattle.turns.proofs.turns.Turns.append.Goals as goal
 
-pub invariant-of-self-2 : goal.invariant-of-self-2
-invariant-of-self-2 c =
+pub invariant_of-self-2 : goal.invariant_of-self-2
+invariant_of-self-2 c =
     let rows = rows_of c.args.self.now.marks in
     let ms = c.args.marks.now in
-    let row = c.in-ok-push.ensures.pushed in (
-      omega (arith, c.push-reserved.ensures.len, c.reserve.ensures.len, ap length row, length_push rows ms),
-      (
-        omega (arith, c.push-reserved.ensures.len, c.reserve.ensures.len),
-        (
-          c.enter.ensures.len,
-          (
-            queued_once_come rows (rows_of c.push.new.self) (vec_items c.args.self.now.done) (vec_items c.push-reserved.new.self) (vec_items c.reserve.new.self) ms c.is-empty.result (vec_len c.args.self.now.done)
-                (sym c.args.self.now.counted) (sym c.args.self.now.done.ok.0) row c.reserve.ensures.items c.push-reserved.ensures.items
-                (λ t. nil_from_length ms (eqb-true (length ms) 0 (sym c.is-empty.ensures ∙ t)))
-                (vec_len c.push-reserved.new.self) c.len-at.result (map entries_in (vec_items c.args.self.now.queues)) (map entries_in (vec_items c.widen.new.queues)) (map entries_in (vec_items c.enter.new.queues))
-                (omega (arith, c.push-reserved.ensures.len, c.reserve.ensures.len)) c.len-at.ensures (length-map (vec_items c.args.self.now.queues) entries_in ∙ sym c.args.self.now.queues.ok.0 ∙ c.args.self.now.sized)
-                c.widen.ensures.same c.enter.ensures.entered c.args.self.now.queued,
-            tt,
-          ),
-        ),
-      ),
-    )
+    let row = c.in_ok-push.ensures.pushed in
+    record {
+      counted = omega (arith, c.push_reserved.ensures.len, c.reserve.ensures.len, ap length row, length_push rows ms);
+      few = omega (arith, c.push_reserved.ensures.len, c.reserve.ensures.len);
+      sized = c.enter.ensures.len;
+      queued = queued_once_come rows (rows_of c.push.new.self) (vec_items c.args.self.now.done) (vec_items c.push_reserved.new.self) (vec_items c.reserve.new.self) ms c.is_empty.result (vec_len c.args.self.now.done)
+          (sym c.args.self.now.counted) (sym c.args.self.now.done.ok.0) row c.reserve.ensures.items c.push_reserved.ensures.items
+          (λ t. nil_from_length ms (eqb-true (length ms) 0 (sym c.is_empty.ensures ∙ t)))
+          (vec_len c.push_reserved.new.self) c.len-at.result (map entries_in (vec_items c.args.self.now.queues)) (map entries_in (vec_items c.widen.new.queues)) (map entries_in (vec_items c.enter.new.queues))
+          (omega (arith, c.push_reserved.ensures.len, c.reserve.ensures.len)) c.len-at.ensures (length-map (vec_items c.args.self.now.queues) entries_in ∙ sym c.args.self.now.queues.ok.0 ∙ c.args.self.now.sized)
+          c.widen.ensures.same c.enter.ensures.entered c.args.self.now.queued;
+    }

@@ -3,17 +3,11 @@ use Rattle.rows.specs.Lists.{rows_of}
 use Rattle.turns.proofs.Coming.{queued_at_first}
 use Rattle.turns.proofs.turns.Turns.new.Goals as goal
 
-pub invariant-of-result : goal.invariant-of-result
-invariant-of-result c = (
-  c.new-2.ensures.len ∙ sym (ap length c.new.ensures),
-  (
-    omega (arith, c.new-2.ensures.len),
-    (
-      c.in-ok-queues.ensures.len,
-      (
-        λ q _. queued_at_first (λ i. get_or (rows_of c.new.result) i []) (λ i. get_or (vec_items c.new-2.result) i false) (vec_items c.in-ok-queues.queues) q (vec_len c.new-2.result) c.new-2.ensures.len c.in-ok-queues.ensures.empty,
-        tt,
-      ),
-    ),
-  ),
-)
+pub invariant_of-result : goal.invariant_of-result
+invariant_of-result c =
+    record {
+      counted = c.new-2.ensures.len ∙ sym (ap length c.new.ensures);
+      few = omega (arith, c.new-2.ensures.len);
+      sized = c.in_ok-queues.ensures.len;
+      queued = λ q _. queued_at_first (λ i. get_or (rows_of c.new.result) i []) (λ i. get_or (vec_items c.new-2.result) i false) (vec_items c.in_ok-queues.queues) q (vec_len c.new-2.result) c.new-2.ensures.len c.in_ok-queues.ensures.empty;
+    }

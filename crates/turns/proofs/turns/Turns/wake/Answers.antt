@@ -5,16 +5,16 @@ use Rattle.turns.specs.Marks.{wakes}
 use Rattle.turns.specs.State.{marks_of, done_of, count_of}
 use Rattle.turns.proofs.Woken.{made_anyway, refused_anyway, passes_not, passes, waits_for_none, waits_for_another, waits_for_it}
 use Rattle.turns.proofs.turns.Turns.wake.Goals as goal
-use Rattle.turns.proofs.turns.Turns.wake.Goals.{then-is-clear-via-then-is-clear, then-is-clear-via-else-is-clear+then-not-is-clear}
+use Rattle.turns.proofs.turns.Turns.wake.Goals.{then-is_clear-via-then-is_clear, then-is_clear-via-else-is_clear+then-not-is_clear}
 
-pub returns-then-is-clear : goal.returns-then-is-clear
-returns-then-is-clear c =
+pub returns-then-is_clear : goal.returns-then-is_clear
+returns-then-is_clear c =
     let t = c.args.self.now in
     let no : wakes (marks_of t) (done_of t) (count_of t) c.args.place c.args.waiting ≡ false =
-    elim c.then-is-clear.branch [
-      | then-is-clear-via-then-is-clear w ↦ waits_for_none t c.args.waiting c.args.place c.requires.undone.0 c.requires.undone.1 (sym w.if-is-clear.true ∙ c.is-clear.ensures)
-      | then-is-clear-via-else-is-clear+then-not-is-clear w ↦
-          waits_for_another t c.args.waiting c.args.place c.requires.undone.0 c.requires.undone.1 (sym w.if-not-is-clear.true ∙ w.is-clear-else-is-clear.ensures)
+    elim c.then-is_clear.branch [
+      | then-is_clear-via-then-is_clear w ↦ waits_for_none t c.args.waiting c.args.place c.requires.undone.0 c.requires.undone.1 (sym w.if-is_clear.true ∙ c.is_clear.ensures)
+      | then-is_clear-via-else-is_clear+then-not-is_clear w ↦
+          waits_for_another t c.args.waiting c.args.place c.requires.undone.0 c.requires.undone.1 (sym w.if-not-is_clear.true ∙ w.is_clear-else-is_clear.ensures)
     ] in
     record {
       rises = c.requires.rises;
@@ -26,7 +26,7 @@ pub returns : goal.returns
 returns c =
     let t = c.args.self.now in
     let yes : wakes (marks_of t) (done_of t) (count_of t) c.args.place c.args.waiting ≡ true =
-    waits_for_it t c.args.waiting c.args.place c.requires.undone.0 c.requires.undone.1 (sym c.if-is-clear.false ∙ c.is-clear.ensures) (sym c.if-not-is-clear.false ∙ c.is-clear-else-is-clear.ensures) in
+    waits_for_it t c.args.waiting c.args.place c.requires.undone.0 c.requires.undone.1 (sym c.if-is_clear.false ∙ c.is_clear.ensures) (sym c.if-not-is_clear.false ∙ c.is_clear-else-is_clear.ensures) in
     record {
       rises = made_anyway c.insert.result _ c.insert.ensures.rises;
       has = IfOk-weaker c.insert.result _ _ (λ _ h j. h j ∙ passes (wakes (marks_of t) (done_of t) (count_of t) c.args.place) j c.args.waiting (is_in j (vec_items c.args.woken.now)) yes) c.insert.ensures.has;

@@ -10,7 +10,7 @@ use Rattle.turns.specs.declared.turns.Turns.{Turns}
 use Rattle.turns.proofs.Passing.{queue_of_key}
 use Rattle.turns.proofs.Woken.{entry_undone, next_own, next_last, next_further, next_end}
 use Rattle.turns.proofs.turns.Turns.wake_behind.Goals as goal
-use Rattle.turns.proofs.turns.Turns.wake_behind.Goals.{then-entry-via-then-entry, then-entry-via-else-entry+then-not-mark, then-entry-place+in-ok-wake+else-entry+else-not-mark, else-entry-place}
+use Rattle.turns.proofs.turns.Turns.wake_behind.Goals.{then-entry-via-then-entry, then-entry-via-else-entry+then-not-mark, then-entry-place+in_ok-wake+else-entry+else-not-mark, else-entry-place}
 
 -- who waits for the order at p and for no other
 abbrev wake : Turns → ℕ → ℕ → Bool
@@ -41,9 +41,9 @@ returns-then-entry c =
       | then-entry-via-else-entry+then-not-mark w ↦ and_left v (not e.writes) w.if-not-mark.true
     ] in
     record {
-      rises = c.in-ok-wake.ensures.rises;
+      rises = c.in_ok-wake.ensures.rises;
       has = λ j.
-          next_last c.args.place v (wake t c.args.place) c.entries-entry-items.result.now c.loop-entry.entry-index c.loop-entry-test.true c.if-entry-place.true last j (is_in j (vec_items c.loop-entry.woken)) (is_in j (vec_items c.wake.new.woken)) (c.in-ok-wake.ensures.has j)
+          next_last c.args.place v (wake t c.args.place) c.entries-entry-items.result.now c.loop-entry.entry-index c.loop-entry-test.true c.if-entry-place.true last j (is_in j (vec_items c.loop-entry.woken)) (is_in j (vec_items c.wake.new.woken)) (c.in_ok-wake.ensures.has j)
           ∙ c.loop-entry.invariant.2 j;
       wanting = tt;
     }
@@ -63,10 +63,10 @@ again c =
     let es = c.entries-entry-items.result.now in
     let i = c.loop-entry.entry-index in
     elim c.if-entry-place.branch [
-      | then-entry-place+in-ok-wake+else-entry+else-not-mark w ↦ subst (λ u. Again c (vec_items u)) (sym w.woken-is) (
-        w.in-ok-wake.ensures.rises,
+      | then-entry-place+in_ok-wake+else-entry+else-not-mark w ↦ subst (λ u. Again c (vec_items u)) (sym w.woken-is) (
+        w.in_ok-wake.ensures.rises,
         λ j.
-            next_further c.args.place v (wake t c.args.place) es i c.loop-entry-test.true w.if-entry-place.true w.if-not-mark.false w.if-entry.false j (is_in j (vec_items c.loop-entry.woken)) (is_in j (vec_items w.wake.new.woken)) (w.in-ok-wake.ensures.has j)
+            next_further c.args.place v (wake t c.args.place) es i c.loop-entry-test.true w.if-entry-place.true w.if-not-mark.false w.if-entry.false j (is_in j (vec_items c.loop-entry.woken)) (is_in j (vec_items w.wake.new.woken)) (w.in_ok-wake.ensures.has j)
             ∙ c.loop-entry.invariant.2 j,
       )
       | else-entry-place w ↦ subst (λ u. Again c (vec_items u)) (sym w.woken-is) (

@@ -12,14 +12,14 @@ loop-mark-init c = (
   λ j. nexts_all c.args.self.now c.args.place j 0 c.row-mark-items.result.now (vec_items c.new-woken.result) c.new-woken.ensures.items c.row-mark-items.ensures,
 )
 
-pub wake-behind-requires : goal.wake-behind-requires
-wake-behind-requires c = c.loop-mark.invariant.0
+pub wake_behind-requires : goal.wake_behind-requires
+wake_behind-requires c = c.loop-mark.invariant.0
 
 pub loop-mark-preserved : goal.loop-mark-preserved
 loop-mark-preserved c = (
-  c.in-ok-wake-behind.ensures.rises,
+  c.in_ok-wake_behind.ensures.rises,
   λ j.
-      nexts_further c.args.self.now c.args.place j c.loop-mark.mark-index c.row-mark-items.result.now c.loop-mark-test.true (is_in j (vec_items c.loop-mark.woken)) (is_in j (vec_items c.wake-behind.new.woken)) (c.in-ok-wake-behind.ensures.has j)
+      nexts_further c.args.self.now c.args.place j c.loop-mark.mark-index c.row-mark-items.result.now c.loop-mark-test.true (is_in j (vec_items c.loop-mark.woken)) (is_in j (vec_items c.wake_behind.new.woken)) (c.in_ok-wake_behind.ensures.has j)
       ∙ c.loop-mark.invariant.1 j,
 )
 

@@ -7,6 +7,6 @@ use Rattle.turns.proofs.turns.append.empty.Goals as goal
 
 pub loop-preserved : goal.loop-preserved
 loop-preserved c = (
-  omega (arith, c.in-ok-push.ensures.len),
-  subst Empty (sym c.in-ok-push.ensures.items) (All-push (λ (q : Queue). entries_in q ≡ []) (vec_items c.loop.queues) c.new.result c.loop.invariant.1 c.new.ensures),
+  omega (arith, c.in_ok-push.ensures.len),
+  subst Empty (sym c.in_ok-push.ensures.items) (All-push (λ (q : Queue). entries_in q ≡ []) (vec_items c.loop.queues) c.new.result c.loop.invariant.1 c.new.ensures),
 )

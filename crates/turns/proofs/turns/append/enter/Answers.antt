@@ -10,17 +10,17 @@ pub push-requires : goal.push-requires
 push-requires c =
     omega (
       arith,
-      room_of_mark c.loop-mark.mark-index c.from.result c.args.marks.now record { key = 0; writes = false } c.loop-mark-test.true c.from.ensures (vec_items c.loop-mark.queues) c.index-mut.result.now c.index-mut.result.now
-          (omega arith) c.index-mut.ensures.value (length c.args.marks.now - c.loop-mark.mark-index) c.loop-mark.invariant.2,
+      room_of_mark c.loop-mark.mark-index c.from.result c.args.marks.now record { key = 0; writes = false } c.loop-mark-test.true c.from.ensures (vec_items c.loop-mark.queues) c.index_mut.result.now c.index_mut.result.now
+          (omega arith) c.index_mut.ensures.value (length c.args.marks.now - c.loop-mark.mark-index) c.loop-mark.invariant.2,
     )
 
 pub loop-mark-preserved : goal.loop-mark-preserved
 loop-mark-preserved c = (
   c.loop-mark.invariant.0,
-  enters_next c.loop-mark.mark-index c.from.result c.args.marks.now record { key = 0; writes = false } c.loop-mark-test.true c.from.ensures (vec_items c.loop-mark.queues) c.index-mut.result.now c.push.new.self
-      (omega arith) c.index-mut.ensures.value c.args.place c.push.ensures.pushed
+  enters_next c.loop-mark.mark-index c.from.result c.args.marks.now record { key = 0; writes = false } c.loop-mark-test.true c.from.ensures (vec_items c.loop-mark.queues) c.index_mut.result.now c.push.new.self
+      (omega arith) c.index_mut.ensures.value c.args.place c.push.ensures.pushed
       ∙ c.loop-mark.invariant.1,
-  roomy_left (vec_items c.loop-mark.queues) (slot c.from.result) c.index-mut.result.now c.push.new.self (omega arith) c.index-mut.ensures.value
+  roomy_left (vec_items c.loop-mark.queues) (slot c.from.result) c.index_mut.result.now c.push.new.self (omega arith) c.index_mut.ensures.value
       (length c.args.marks.now - (c.loop-mark.mark-index + 1)) (length c.args.marks.now - c.loop-mark.mark-index) c.args.marks.now (omega arith) (λ l. omega arith) c.loop-mark.invariant.2,
 )
 

@@ -8,8 +8,8 @@ use Rattle.turns.proofs.turns.finish.leave.Goals as goal
 pub loop-mark-preserved : goal.loop-mark-preserved
 loop-mark-preserved c = (
   c.loop-mark.invariant.0,
-  leaves_next c.args.place c.loop-mark.mark-index c.from.result c.args.marks.now record { key = 0; writes = false } (vec_items c.loop-mark.queues) c.index-mut.result.now c.remove.new.self
-      c.loop-mark-test.true c.from.ensures (omega arith) c.index-mut.ensures.value c.remove.ensures
+  leaves_next c.args.place c.loop-mark.mark-index c.from.result c.args.marks.now record { key = 0; writes = false } (vec_items c.loop-mark.queues) c.index_mut.result.now c.remove.new.self
+      c.loop-mark-test.true c.from.ensures (omega arith) c.index_mut.ensures.value c.remove.ensures
       ∙ c.loop-mark.invariant.1,
 )
 
