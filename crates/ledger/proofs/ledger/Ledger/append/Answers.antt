@@ -10,56 +10,56 @@ use Rattle.ledger.proofs.Growing.{keys_meant, marks_meant, row_pushed, refused_b
 use Rattle.ledger.proofs.ledger.Ledger.append.Goals as goal
 use Rattle.ledger.proofs.ledger.Ledger.append.Goals.{then-count-eq0, else-count-eq0}
 
-pub returns-in-err-place : goal.returns-in-err-place
-returns-in-err-place c =
-    let p = err_from_is_err_and c.from-residual-in-err-place.result c.from-residual-in-err-place.ensures.1 in
+pub returns-in_err-place : goal.returns-in_err-place
+returns-in_err-place c =
+    let p = err_from_is_err_and c.from_residual-in_err-place.result c.from_residual-in_err-place.ensures.1 in
     let s = c.args.self.now in
     let bs = c.args.bytes.now in
-    let order = contents_of c.decode-into.new.self in
-    let row = take c.own-marks-count.result c.own-marks-count.new.marks in
-    let meant : row ≡ marks_for s.number (transaction bs) = marks_meant s.number bs order row (keys_meant c.decode-into.result bs order c.decode-into.ensures.finds c.decode-into.ensures.idles) c.own-marks-count.ensures.marks in
-    let e = c.in-err-place.field-0.0 in
+    let order = contents_of c.decode_into.new.self in
+    let row = take c.own_marks-count.result c.own_marks-count.new.marks in
+    let meant : row ≡ marks_for s.number (transaction bs) = marks_meant s.number bs order row (keys_meant c.decode_into.result bs order c.decode_into.ensures.finds c.decode_into.ensures.idles) c.own_marks-count.ensures.marks in
+    let e = c.in_err-place.field-0.0 in
     rw (p.1, p.2) (
       record {
         same_number = refl;
         same_orders = c.reserve.ensures.same;
-        same_turns = c.in-err-place.ensures.0;
+        same_turns = c.in_err-place.ensures.0;
         same_values = refl;
         same_slots = c.reserve-2.ensures.same;
         same_looked = c.reserve-3.ensures.items;
       },
-      refused_by_turns e s bs (subst (Refuses e s.turns) meant c.in-err-place.ensures.1),
+      refused_by_turns e s bs (subst (Refuses e s.turns) meant c.in_err-place.ensures.1),
     )
 
-pub invariant-of-self-2 : goal.invariant-of-self-2
-invariant-of-self-2 c =
+pub invariant_of-self-2 : goal.invariant_of-self-2
+invariant_of-self-2 c =
     let s = c.args.self.now in
     let bs = c.args.bytes.now in
-    let order = contents_of c.decode-into.new.self in
-    let n = c.own-marks-count.result in
+    let order = contents_of c.decode_into.new.self in
+    let n = c.own_marks-count.result in
     let w = c.if-count-eq0.width in
-    let row = take n c.own-marks-count.new.marks in
+    let row = take n c.own_marks-count.new.marks in
     let taken : Taken s bs row n w =
     record {
       order = order;
-      keys = keys_meant c.decode-into.result bs order c.decode-into.ensures.finds c.decode-into.ensures.idles;
-      row_is = c.own-marks-count.ensures.marks;
-      row_long = length-take-le n c.own-marks-count.new.marks (omega (arith, c.own-marks-count.array_long, c.own-marks-count.ensures.few));
+      keys = keys_meant c.decode_into.result bs order c.decode_into.ensures.finds c.decode_into.ensures.idles;
+      row_is = c.own_marks-count.ensures.marks;
+      row_long = length-take-le n c.own_marks-count.new.marks (omega (arith, c.own_marks-count.array_long, c.own_marks-count.ensures.few));
       way = elim c.if-count-eq0.branch [ then-count-eq0 v ↦ inl (v.if-count-eq0.true, v.width-is) | else-count-eq0 v ↦ inr (v.if-count-eq0.false, v.width-is ∙ ap length v.reads.ensures.is) ];
       few = elim c.if-count-eq0.branch [ then-count-eq0 v ↦ omega (arith, v.width-is) | else-count-eq0 v ↦ omega (arith, v.width-is, v.reads.ensures.few) ];
     }
     in
-    let b : Lists = record { orders = rows_of c.push.new.self; marks = rows_of c.append.new.self.marks; done = vec_items c.append.new.self.done; slots = rows_of c.push-2.new.self; looked = vec_items c.push-reserved.new.self } in
+    let b : Lists = record { orders = rows_of c.push.new.self; marks = rows_of c.append.new.self.marks; done = vec_items c.append.new.self.done; slots = rows_of c.push-2.new.self; looked = vec_items c.push_reserved.new.self } in
     let more : More s.number bs (count_of s.turns) (lists_of s) b =
     more_from s bs row n w taken b
-    (row_pushed c.push.result (rows_of s.orders) (rows_of c.reserve.new.self) b.orders bs (c.push.ensures.succeeds c.in-ok-reserve.ensures.room) c.push.ensures.pushed c.reserve.ensures.same)
-    c.in-ok-place.ensures.1 c.in-ok-place.ensures.2
+    (row_pushed c.push.result (rows_of s.orders) (rows_of c.reserve.new.self) b.orders bs (c.push.ensures.succeeds c.in_ok-reserve.ensures.room) c.push.ensures.pushed c.reserve.ensures.same)
+    c.in_ok-place.ensures.1 c.in_ok-place.ensures.2
     (row_pushed c.push-2.result (rows_of s.slots) (rows_of c.reserve-2.new.self) b.slots (none w)
-    (c.push-2.ensures.succeeds (subst (Room c.reserve-2.new.self) (sym (none_long s bs row n w taken)) c.in-ok-reserve-2.ensures.room)) c.push-2.ensures.pushed c.reserve-2.ensures.same)
-    (c.push-reserved.ensures.items ∙ ap (λ l. l ++ false ∷ []) c.reserve-3.ensures.items)
+    (c.push-2.ensures.succeeds (subst (Room c.reserve-2.new.self) (sym (none_long s bs row n w taken)) c.in_ok-reserve-2.ensures.room)) c.push-2.ensures.pushed c.reserve-2.ensures.same)
+    (c.push_reserved.ensures.items ∙ ap (λ l. l ++ false ∷ []) c.reserve-3.ensures.items)
     in
     let n' : count_of c.append.new.self ≡ count_of s.turns + 1 = c.append.new.self.done.ok.0 ∙ done_longer s bs b more in
-    let noted : vec_len c.push-reserved.new.self ≡ count_of s.turns + 1 = c.push-reserved.new.self.ok.0 ∙ looked_longer s bs b more in
+    let noted : vec_len c.push_reserved.new.self ≡ count_of s.turns + 1 = c.push_reserved.new.self.ok.0 ∙ looked_longer s bs b more in
     let h = s.number in
     let o = lists_of s in
     record {
@@ -72,34 +72,34 @@ invariant-of-self-2 c =
       wide = wide_grown h bs (count_of s.turns) o b more s.wide;
       filled = filled_grown h bs (count_of s.turns) o b more s.filled;
       seen = seen_grown h bs (count_of s.turns) o b more s.seen;
-      read = read_grown h bs (count_of s.turns) o b more (vec_len s.looked) (vec_len c.push-reserved.new.self) s.noted noted s.read;
+      read = read_grown h bs (count_of s.turns) o b more (vec_len s.looked) (vec_len c.push_reserved.new.self) s.noted noted s.read;
     }
 
 pub returns : goal.returns
 returns c =
     let s = c.args.self.now in
     let bs = c.args.bytes.now in
-    let order = contents_of c.decode-into.new.self in
-    let n = c.own-marks-count.result in
+    let order = contents_of c.decode_into.new.self in
+    let n = c.own_marks-count.result in
     let w = c.if-count-eq0.width in
-    let row = take n c.own-marks-count.new.marks in
+    let row = take n c.own_marks-count.new.marks in
     let taken : Taken s bs row n w =
     record {
       order = order;
-      keys = keys_meant c.decode-into.result bs order c.decode-into.ensures.finds c.decode-into.ensures.idles;
-      row_is = c.own-marks-count.ensures.marks;
-      row_long = length-take-le n c.own-marks-count.new.marks (omega (arith, c.own-marks-count.array_long, c.own-marks-count.ensures.few));
+      keys = keys_meant c.decode_into.result bs order c.decode_into.ensures.finds c.decode_into.ensures.idles;
+      row_is = c.own_marks-count.ensures.marks;
+      row_long = length-take-le n c.own_marks-count.new.marks (omega (arith, c.own_marks-count.array_long, c.own_marks-count.ensures.few));
       way = elim c.if-count-eq0.branch [ then-count-eq0 v ↦ inl (v.if-count-eq0.true, v.width-is) | else-count-eq0 v ↦ inr (v.if-count-eq0.false, v.width-is ∙ ap length v.reads.ensures.is) ];
       few = elim c.if-count-eq0.branch [ then-count-eq0 v ↦ omega (arith, v.width-is) | else-count-eq0 v ↦ omega (arith, v.width-is, v.reads.ensures.few) ];
     }
     in
-    let b : Lists = record { orders = rows_of c.push.new.self; marks = rows_of c.append.new.self.marks; done = vec_items c.append.new.self.done; slots = rows_of c.push-2.new.self; looked = vec_items c.push-reserved.new.self } in
+    let b : Lists = record { orders = rows_of c.push.new.self; marks = rows_of c.append.new.self.marks; done = vec_items c.append.new.self.done; slots = rows_of c.push-2.new.self; looked = vec_items c.push_reserved.new.self } in
     let more : More s.number bs (count_of s.turns) (lists_of s) b =
     more_from s bs row n w taken b
-    (row_pushed c.push.result (rows_of s.orders) (rows_of c.reserve.new.self) b.orders bs (c.push.ensures.succeeds c.in-ok-reserve.ensures.room) c.push.ensures.pushed c.reserve.ensures.same)
-    c.in-ok-place.ensures.1 c.in-ok-place.ensures.2
+    (row_pushed c.push.result (rows_of s.orders) (rows_of c.reserve.new.self) b.orders bs (c.push.ensures.succeeds c.in_ok-reserve.ensures.room) c.push.ensures.pushed c.reserve.ensures.same)
+    c.in_ok-place.ensures.1 c.in_ok-place.ensures.2
     (row_pushed c.push-2.result (rows_of s.slots) (rows_of c.reserve-2.new.self) b.slots (none w)
-    (c.push-2.ensures.succeeds (subst (Room c.reserve-2.new.self) (sym (none_long s bs row n w taken)) c.in-ok-reserve-2.ensures.room)) c.push-2.ensures.pushed c.reserve-2.ensures.same)
-    (c.push-reserved.ensures.items ∙ ap (λ l. l ++ false ∷ []) c.reserve-3.ensures.items)
+    (c.push-2.ensures.succeeds (subst (Room c.reserve-2.new.self) (sym (none_long s bs row n w taken)) c.in_ok-reserve-2.ensures.room)) c.push-2.ensures.pushed c.reserve-2.ensures.same)
+    (c.push_reserved.ensures.items ∙ ap (λ l. l ++ false ∷ []) c.reserve-3.ensures.items)
     in
-    (c.in-ok-place.ensures.0, grown s _ bs more refl refl)
+    (c.in_ok-place.ensures.0, grown s _ bs more refl refl)

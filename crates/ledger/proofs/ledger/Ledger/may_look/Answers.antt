@@ -14,20 +14,20 @@ returns-then-not-touches c =
     let e : false ≡ may_look s i = fails_here (marked false (marks_of s.turns i)) (not (looked_at s i) && ready (marks_of s.turns) (done_of s.turns) i) c.if-not-touches.ensures in
     record { is = e; exact = Decides-at false (may_look s i) e (look_decided s i) }
 
-pub returns-then-is-noted : goal.returns-then-is-noted
-returns-then-is-noted c =
+pub returns-then-is_noted : goal.returns-then-is_noted
+returns-then-is_noted c =
     let s = c.args.self.now in
     let i = c.args.place in
     let e : false ≡ may_look s i =
     goes_on (marked false (marks_of s.turns i)) (not (looked_at s i) && ready (marks_of s.turns) (done_of s.turns) i) false c.if-not-touches.ensures
-    (fails_here (not (looked_at s i)) (ready (marks_of s.turns) (done_of s.turns) i) (ap not c.if-is-noted.ensures)) in
+    (fails_here (not (looked_at s i)) (ready (marks_of s.turns) (done_of s.turns) i) (ap not c.if-is_noted.ensures)) in
     record { is = e; exact = Decides-at false (may_look s i) e (look_decided s i) }
 
 pub returns : goal.returns
 returns c =
     let s = c.args.self.now in
     let i = c.args.place in
-    let e : c.is-ready.result ≡ may_look s i =
-    goes_on (marked false (marks_of s.turns i)) (not (looked_at s i) && ready (marks_of s.turns) (done_of s.turns) i) c.is-ready.result c.if-not-touches.ensures
-    (goes_on (not (looked_at s i)) (ready (marks_of s.turns) (done_of s.turns) i) c.is-ready.result (ap not c.if-is-noted.ensures) c.is-ready.ensures) in
-    record { is = e; exact = Decides-at c.is-ready.result (may_look s i) e (look_decided s i) }
+    let e : c.is_ready.result ≡ may_look s i =
+    goes_on (marked false (marks_of s.turns i)) (not (looked_at s i) && ready (marks_of s.turns) (done_of s.turns) i) c.is_ready.result c.if-not-touches.ensures
+    (goes_on (not (looked_at s i)) (ready (marks_of s.turns) (done_of s.turns) i) c.is_ready.result (ap not c.if-is_noted.ensures) c.is_ready.ensures) in
+    record { is = e; exact = Decides-at c.is_ready.result (may_look s i) e (look_decided s i) }

@@ -46,33 +46,33 @@ returns-then-not-touches c =
     let e : false ≡ may_write s i = fails_here (marked true (marks_of s.turns i)) (undone s i && (looked s i && told s i)) c.if-not-touches.ensures in
     record { is = e; exact = Decides-at false (may_write s i) e (write_decided s i) }
 
-pub returns-then-is-done : goal.returns-then-is-done
-returns-then-is-done c =
+pub returns-then-is_done : goal.returns-then-is_done
+returns-then-is_done c =
     let s = c.args.self.now in
     let i = c.args.place in
-    let e : false ≡ may_write s i = past_touches s i false c.if-not-touches.ensures (fails_here (undone s i) (looked s i && told s i) (ap not c.if-is-done.ensures)) in
+    let e : false ≡ may_write s i = past_touches s i false c.if-not-touches.ensures (fails_here (undone s i) (looked s i && told s i) (ap not c.if-is_done.ensures)) in
     record { is = e; exact = Decides-at false (may_write s i) e (write_decided s i) }
 
-pub returns-then-not-has-looked : goal.returns-then-not-has-looked
-returns-then-not-has-looked c =
+pub returns-then-not-has_looked : goal.returns-then-not-has_looked
+returns-then-not-has_looked c =
     let s = c.args.self.now in
     let i = c.args.place in
-    let e : false ≡ may_write s i = past_done s i false c.if-not-touches.ensures c.if-is-done.ensures (fails_here (looked s i) (told s i) c.if-not-has-looked.ensures) in
+    let e : false ≡ may_write s i = past_done s i false c.if-not-touches.ensures c.if-is_done.ensures (fails_here (looked s i) (told s i) c.if-not-has_looked.ensures) in
     record { is = e; exact = Decides-at false (may_write s i) e (write_decided s i) }
 
-pub returns-then-not-is-ready : goal.returns-then-not-is-ready
-returns-then-not-is-ready c =
+pub returns-then-not-is_ready : goal.returns-then-not-is_ready
+returns-then-not-is_ready c =
     let s = c.args.self.now in
     let i = c.args.place in
     let e : false ≡ may_write s i =
-    past_looked s i false c.if-not-touches.ensures c.if-is-done.ensures c.if-not-has-looked.ensures (sym (and_right (known (slots_at s i)) (turn s i) (sym c.if-not-is-ready.ensures))) in
+    past_looked s i false c.if-not-touches.ensures c.if-is_done.ensures c.if-not-has_looked.ensures (sym (and_right (known (slots_at s i)) (turn s i) (sym c.if-not-is_ready.ensures))) in
     record { is = e; exact = Decides-at false (may_write s i) e (write_decided s i) }
 
 pub returns : goal.returns
 returns c =
     let s = c.args.self.now in
     let i = c.args.place in
-    let e : c.all-known.result ≡ may_write s i =
-    past_looked s i c.all-known.result c.if-not-touches.ensures c.if-is-done.ensures c.if-not-has-looked.ensures
-    (c.all-known.ensures ∙ ap known c.row.ensures ∙ turned (known (slots_at s i)) (turn s i) c.if-not-is-ready.ensures) in
-    record { is = e; exact = Decides-at c.all-known.result (may_write s i) e (write_decided s i) }
+    let e : c.all_known.result ≡ may_write s i =
+    past_looked s i c.all_known.result c.if-not-touches.ensures c.if-is_done.ensures c.if-not-has_looked.ensures
+    (c.all_known.ensures ∙ ap known c.row.ensures ∙ turned (known (slots_at s i)) (turn s i) c.if-not-is_ready.ensures) in
+    record { is = e; exact = Decides-at c.all_known.result (may_write s i) e (write_decided s i) }

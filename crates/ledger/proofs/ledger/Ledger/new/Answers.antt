@@ -5,16 +5,16 @@ use Rattle.turns.specs.State.{count_of}
 use Rattle.ledger.proofs.Beginning.{matched_at_first, wide_at_first, seen_at_first, fresh_at_first}
 use Rattle.ledger.proofs.ledger.Ledger.new.Goals as goal
 
-pub invariant-of-result : goal.invariant-of-result
-invariant-of-result c =
+pub invariant_of-result : goal.invariant_of-result
+invariant_of-result c =
     let os = rows_of c.new-2.result in
-    let ms = rows_of c.in-ok-turns.turns.marks in
+    let ms = rows_of c.in_ok-turns.turns.marks in
     let ss = rows_of c.new-3.result in
-    let ds = vec_items c.in-ok-turns.turns.done in
+    let ds = vec_items c.in_ok-turns.turns.done in
     let ls = vec_items c.new-4.result in
-    let marks_are = c.in-ok-turns.ensures.marks in
-    let done_is = c.in-ok-turns.ensures.done in
-    let none : count_of c.in-ok-turns.turns ≡ 0 = c.in-ok-turns.turns.done.ok.0 ∙ ap length done_is in
+    let marks_are = c.in_ok-turns.ensures.marks in
+    let done_is = c.in_ok-turns.ensures.done in
+    let none : count_of c.in_ok-turns.turns ≡ 0 = c.in_ok-turns.turns.done.ok.0 ∙ ap length done_is in
     let h = c.args.number in
     record {
       housed = omega arith;
@@ -31,4 +31,4 @@ invariant-of-result c =
 
 pub returns : goal.returns
 returns c =
-    fresh_at_first _ c.new-2.ensures c.in-ok-turns.ensures.marks c.new-3.ensures c.in-ok-turns.ensures.done c.new-4.ensures.items 4096 (c.in-ok-values.ensures.items-if-clones-equal (λ y e. e))
+    fresh_at_first _ c.new-2.ensures c.in_ok-turns.ensures.marks c.new-3.ensures c.in_ok-turns.ensures.done c.new-4.ensures.items 4096 (c.in_ok-values.ensures.items_if_clones_equal (λ y e. e))

@@ -2,7 +2,7 @@ use Rattle.std.proofs.Common.{sym, ap, ◌∙◌, arith}
 use Rattle.rows.specs.Lists.{rows_of}
 use Rattle.ledger.proofs.Telling.{told_none, told_one, told_not, told_all, told_enough}
 use Rattle.ledger.proofs.ledger.hear.keep.Goals as goal
-use Rattle.ledger.proofs.ledger.hear.keep.Goals.{then-is-own+else-next-values, else-is-own}
+use Rattle.ledger.proofs.ledger.hear.keep.Goals.{then-is_own+else-next-values, else-is_own}
 
 pub loop-i-init : goal.loop-i-init
 loop-i-init c = told_none c.args.from c.args.keys.now c.args.values.now (rows_of c.args.slots.now) c.args.index
@@ -13,13 +13,13 @@ returns-then-next-values c =
 
 pub loop-i-preserved : goal.loop-i-preserved
 loop-i-preserved c =
-    elim c.if-is-own.branch [
-      | then-is-own+else-next-values w ↦
-          told_one c.args.from c.args.keys.now c.args.values.now (rows_of c.args.slots.now) c.args.index c.loop-i.i c.loop-i.next c.if-is-own.next (rows_of c.loop-i.slots) (rows_of c.if-is-own.slots)
-          c.loop-i-test.true (sym w.if-is-own.ensures) w.if-next-values.false w.next-is (ap (λ r. rows_of r) w.slots-is ∙ w.set.ensures) c.loop-i.invariant
-      | else-is-own w ↦
-          told_not c.args.from c.args.keys.now c.args.values.now (rows_of c.args.slots.now) c.args.index c.loop-i.i c.loop-i.next c.if-is-own.next (rows_of c.loop-i.slots) (rows_of c.if-is-own.slots)
-          c.loop-i-test.true (sym w.if-is-own.ensures) w.next-is (ap (λ r. rows_of r) w.slots-is) c.loop-i.invariant
+    elim c.if-is_own.branch [
+      | then-is_own+else-next-values w ↦
+          told_one c.args.from c.args.keys.now c.args.values.now (rows_of c.args.slots.now) c.args.index c.loop-i.i c.loop-i.next c.if-is_own.next (rows_of c.loop-i.slots) (rows_of c.if-is_own.slots)
+          c.loop-i-test.true (sym w.if-is_own.ensures) w.if-next-values.false w.next-is (ap (λ r. rows_of r) w.slots-is ∙ w.set.ensures) c.loop-i.invariant
+      | else-is_own w ↦
+          told_not c.args.from c.args.keys.now c.args.values.now (rows_of c.args.slots.now) c.args.index c.loop-i.i c.loop-i.next c.if-is_own.next (rows_of c.loop-i.slots) (rows_of c.if-is_own.slots)
+          c.loop-i-test.true (sym w.if-is_own.ensures) w.next-is (ap (λ r. rows_of r) w.slots-is) c.loop-i.invariant
     ]
 
 pub returns : goal.returns

@@ -6,7 +6,7 @@ pub loop-i-init : goal.loop-i-init
 loop-i-init c = c.requires.zeros
 
 pub loop-i-preserved : goal.loop-i-preserved
-loop-i-preserved c = loaded_more c.args.slots.now c.loop-i.i c.loop-i.registers c.loop-i.invariant c.unwrap-or.result c.loop-i-test.true c.requires.few c.unwrap-or.ensures
+loop-i-preserved c = loaded_more c.args.slots.now c.loop-i.i c.loop-i.registers c.loop-i.invariant c.unwrap_or.result c.loop-i-test.true c.requires.few c.unwrap_or.ensures
 
 pub returns : goal.returns
 returns c = loaded_all c.args.slots.now c.loop-i.i c.loop-i.registers c.loop-i.invariant (omega arith) (omega arith)

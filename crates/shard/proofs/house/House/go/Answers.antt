@@ -11,7 +11,7 @@ pub loop-preserved : goal.loop-preserved
 loop-preserved c =
     let ds = vec_items c.loop.went.done in
     let ds' = vec_items c.next.new.done in
-    let next = c.in-default.ensures in (
+    let next = c.in_default.ensures in (
       going_more c.args.self.now c.loop.self c.next.new.self ds ds' c.loop.counter (omega (arith, c.len-end.ensures, c.args.self.now.tasks.ok)) c.loop.invariant.0 next,
       omega (arith, next_adds_one c.loop.self c.next.new.self ds ds' next, c.len.ensures, c.loop.went.done.ok, c.if-len-count.false),
       c.loop.invariant.2,

@@ -4,20 +4,20 @@ use Rattle.ledger.specs.Notes.{values_of}
 use Rattle.shard.specs.Tasks.{tasks_at, task_at, listed}
 use Rattle.shard.proofs.Events.{listed_after, once_after, becomes, change_look_writer, change_look_done, ends_look, woken_some}
 use Rattle.shard.proofs.house.House.look_in_place.Goals as goal
-use Rattle.shard.proofs.house.House.look_in_place.Goals.{After-list, After-list-all}
+use Rattle.shard.proofs.house.House.look_in_place.Goals.{After-list, After-list_all}
 
 -- the write of the same order stands behind the others
 extended : (c : After-list) → deque_items c.list.new.tasks ≡ deque_items c.args.self.now.tasks ++ tasks_at c.look.new.self (c.args.place ∷ [])
 extended c = c.list.ensures.items ∙ ap (λ ts. ts ++ listed (task_at c.look.new.self c.args.place) []) c.reserve.ensures.items
 
-pub invariant-of-self-then-touches : goal.invariant-of-self-then-touches
-invariant-of-self-then-touches c =
+pub invariant_of-self-then-touches : goal.invariant_of-self-then-touches
+invariant_of-self-then-touches c =
     let s = c.args.self.now.ledger in
     let s' = c.look.new.self in
     let raw = deque_items c.args.self.now.tasks in
     let raw' = deque_items c.list.new.tasks in
     let fresh = tasks_at s' (c.args.place ∷ []) in
-    let change = change_look_writer s s' c.args.place (values_of c.in-ok-note.note) c.in-ok-note.ensures (sym c.if-touches.ensures) in
+    let change = change_look_writer s s' c.args.place (values_of c.in_ok-note.note) c.in_ok-note.ensures (sym c.if-touches.ensures) in
     record {
       once = once_after s s' raw raw' fresh change (extended c) c.args.self.now.listed c.args.self.now.once;
       listed = listed_after s s' raw raw' fresh change (extended c) c.args.self.now.listed;
@@ -31,40 +31,40 @@ returns-then-touches c =
     let raw = deque_items c.args.self.now.tasks in
     let raw' = deque_items c.list.new.tasks in
     let fresh = tasks_at s' (c.args.place ∷ []) in
-    let look = c.in-ok-note.ensures in
-    let change = change_look_writer s s' c.args.place (values_of c.in-ok-note.note) look (sym c.if-touches.ensures) in
-    (look, becomes s s' raw raw' fresh change (extended d) c.args.self.now.listed, (fresh, extended d), ends_look s s' c.args.place (values_of c.in-ok-note.note) look)
+    let look = c.in_ok-note.ensures in
+    let change = change_look_writer s s' c.args.place (values_of c.in_ok-note.note) look (sym c.if-touches.ensures) in
+    (look, becomes s s' raw raw' fresh change (extended d) c.args.self.now.listed, (fresh, extended d), ends_look s s' c.args.place (values_of c.in_ok-note.note) look)
 
-pub returns-in-err-woken : goal.returns-in-err-woken
-returns-in-err-woken c =
-    let p = err_from_is_err_and c.from-residual-in-err-woken.result c.from-residual-in-err-woken.ensures.1 in
-    rw (p.1, p.2) (record { same_ledger = refl; same_list = refl }, (sym c.if-not-may-look.ensures.is, inl c.in-err-woken.ensures.wanting))
+pub returns-in_err-woken : goal.returns-in_err-woken
+returns-in_err-woken c =
+    let p = err_from_is_err_and c.from_residual-in_err-woken.result c.from_residual-in_err-woken.ensures.1 in
+    rw (p.1, p.2) (record { same_ledger = refl; same_list = refl }, (sym c.if-not-may_look.ensures.is, inl c.in_err-woken.ensures.wanting))
 
-pub returns-in-err-reserve-2 : goal.returns-in-err-reserve-2
-returns-in-err-reserve-2 c =
-    let p = err_from_is_err_and c.from-residual-in-err-reserve-2.result c.from-residual-in-err-reserve-2.ensures.1 in
+pub returns-in_err-reserve-2 : goal.returns-in_err-reserve-2
+returns-in_err-reserve-2 c =
+    let p = err_from_is_err_and c.from_residual-in_err-reserve-2.result c.from_residual-in_err-reserve-2.ensures.1 in
     rw (p.1, p.2) (
       record { same_ledger = refl; same_list = c.reserve-2.ensures.items },
       (
-        sym c.if-not-may-look.ensures.is,
-        woken_some c.args.self.now c.args.place (vec_items c.in-ok-woken.woken) c.len.result (c.len.ensures ∙ c.in-ok-woken.woken.ok.0) c.in-ok-woken.ensures.woken c.in-err-reserve-2.ensures.full,
+        sym c.if-not-may_look.ensures.is,
+        woken_some c.args.self.now c.args.place (vec_items c.in_ok-woken.woken) c.len.result (c.len.ensures ∙ c.in_ok-woken.woken.ok.0) c.in_ok-woken.ensures.woken c.in_err-reserve-2.ensures.full,
       ),
     )
 
 -- those that it woke stand behind the others
-woken_behind : (c : After-list-all) → deque_items c.list-all.new.tasks ≡ deque_items c.args.self.now.tasks ++ tasks_at c.look-2.new.self (vec_items c.in-ok-woken.woken)
+woken_behind : (c : After-list_all) → deque_items c.list_all.new.tasks ≡ deque_items c.args.self.now.tasks ++ tasks_at c.look-2.new.self (vec_items c.in_ok-woken.woken)
 woken_behind c =
-    c.list-all.ensures ∙ ap (λ is. deque_items c.reserve-2.new.self ++ tasks_at c.look-2.new.self is) c.as-slice.ensures.value
-    ∙ ap (λ ts. ts ++ tasks_at c.look-2.new.self (vec_items c.in-ok-woken.woken)) c.reserve-2.ensures.items
+    c.list_all.ensures ∙ ap (λ is. deque_items c.reserve-2.new.self ++ tasks_at c.look-2.new.self is) c.as_slice.ensures.value
+    ∙ ap (λ ts. ts ++ tasks_at c.look-2.new.self (vec_items c.in_ok-woken.woken)) c.reserve-2.ensures.items
 
-pub invariant-of-self-2 : goal.invariant-of-self-2
-invariant-of-self-2 c =
+pub invariant_of-self-2 : goal.invariant_of-self-2
+invariant_of-self-2 c =
     let s = c.args.self.now.ledger in
     let s' = c.look-2.new.self in
     let raw = deque_items c.args.self.now.tasks in
-    let raw' = deque_items c.list-all.new.tasks in
-    let woken = vec_items c.in-ok-woken.woken in
-    let change = change_look_done s s' c.args.place (values_of c.in-ok-note-2.note) c.in-ok-note-2.ensures (sym c.if-touches.ensures) woken c.in-ok-woken.ensures.woken in
+    let raw' = deque_items c.list_all.new.tasks in
+    let woken = vec_items c.in_ok-woken.woken in
+    let change = change_look_done s s' c.args.place (values_of c.in_ok-note-2.note) c.in_ok-note-2.ensures (sym c.if-touches.ensures) woken c.in_ok-woken.ensures.woken in
     record {
       once = once_after s s' raw raw' (tasks_at s' woken) change (woken_behind c) c.args.self.now.listed c.args.self.now.once;
       listed = listed_after s s' raw raw' (tasks_at s' woken) change (woken_behind c) c.args.self.now.listed;
@@ -72,12 +72,12 @@ invariant-of-self-2 c =
 
 pub returns : goal.returns
 returns c =
-    let d = (goal.at.returns c).After-list-all in
+    let d = (goal.at.returns c).After-list_all in
     let s = c.args.self.now.ledger in
     let s' = c.look-2.new.self in
     let raw = deque_items c.args.self.now.tasks in
-    let raw' = deque_items c.list-all.new.tasks in
-    let woken = vec_items c.in-ok-woken.woken in
-    let look = c.in-ok-note-2.ensures in
-    let change = change_look_done s s' c.args.place (values_of c.in-ok-note-2.note) look (sym c.if-touches.ensures) woken c.in-ok-woken.ensures.woken in
-    (look, becomes s s' raw raw' (tasks_at s' woken) change (woken_behind d) c.args.self.now.listed, (tasks_at s' woken, woken_behind d), ends_look s s' c.args.place (values_of c.in-ok-note-2.note) look)
+    let raw' = deque_items c.list_all.new.tasks in
+    let woken = vec_items c.in_ok-woken.woken in
+    let look = c.in_ok-note-2.ensures in
+    let change = change_look_done s s' c.args.place (values_of c.in_ok-note-2.note) look (sym c.if-touches.ensures) woken c.in_ok-woken.ensures.woken in
+    (look, becomes s s' raw raw' (tasks_at s' woken) change (woken_behind d) c.args.self.now.listed, (tasks_at s' woken, woken_behind d), ends_look s s' c.args.place (values_of c.in_ok-note-2.note) look)

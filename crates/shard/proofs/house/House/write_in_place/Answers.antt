@@ -4,37 +4,37 @@ use Rattle.ledger.specs.Notes.{values_of}
 use Rattle.shard.specs.Tasks.{tasks_at, task_at, listed}
 use Rattle.shard.proofs.Events.{listed_after, once_after, becomes, change_write, ends_write, woken_some}
 use Rattle.shard.proofs.house.House.write_in_place.Goals as goal
-use Rattle.shard.proofs.house.House.write_in_place.Goals.{After-list-all}
+use Rattle.shard.proofs.house.House.write_in_place.Goals.{After-list_all}
 
-pub returns-in-err-woken : goal.returns-in-err-woken
-returns-in-err-woken c =
-    let p = err_from_is_err_and c.from-residual.result c.from-residual.ensures.1 in
-    rw (p.1, p.2) (record { same_ledger = refl; same_list = refl }, (sym c.if-not-may-write.ensures.is, inl c.in-err-woken.ensures.wanting))
+pub returns-in_err-woken : goal.returns-in_err-woken
+returns-in_err-woken c =
+    let p = err_from_is_err_and c.from_residual.result c.from_residual.ensures.1 in
+    rw (p.1, p.2) (record { same_ledger = refl; same_list = refl }, (sym c.if-not-may_write.ensures.is, inl c.in_err-woken.ensures.wanting))
 
-pub returns-in-err-reserve : goal.returns-in-err-reserve
-returns-in-err-reserve c =
-    let p = err_from_is_err_and c.from-residual-in-err-reserve.result c.from-residual-in-err-reserve.ensures.1 in
+pub returns-in_err-reserve : goal.returns-in_err-reserve
+returns-in_err-reserve c =
+    let p = err_from_is_err_and c.from_residual-in_err-reserve.result c.from_residual-in_err-reserve.ensures.1 in
     rw (p.1, p.2) (
       record { same_ledger = refl; same_list = c.reserve.ensures.items },
       (
-        sym c.if-not-may-write.ensures.is,
-        woken_some c.args.self.now c.args.place (vec_items c.in-ok-woken.woken) c.len.result (c.len.ensures ∙ c.in-ok-woken.woken.ok.0) c.in-ok-woken.ensures.woken c.in-err-reserve.ensures.full,
+        sym c.if-not-may_write.ensures.is,
+        woken_some c.args.self.now c.args.place (vec_items c.in_ok-woken.woken) c.len.result (c.len.ensures ∙ c.in_ok-woken.woken.ok.0) c.in_ok-woken.ensures.woken c.in_err-reserve.ensures.full,
       ),
     )
 
-extended : (c : After-list-all) → deque_items c.list-all.new.tasks ≡ deque_items c.args.self.now.tasks ++ tasks_at c.write.new.self (vec_items c.in-ok-woken.woken)
+extended : (c : After-list_all) → deque_items c.list_all.new.tasks ≡ deque_items c.args.self.now.tasks ++ tasks_at c.write.new.self (vec_items c.in_ok-woken.woken)
 extended c =
-    c.list-all.ensures ∙ ap (λ is. deque_items c.reserve.new.self ++ tasks_at c.write.new.self is) c.as-slice.ensures.value
-    ∙ ap (λ ts. ts ++ tasks_at c.write.new.self (vec_items c.in-ok-woken.woken)) c.reserve.ensures.items
+    c.list_all.ensures ∙ ap (λ is. deque_items c.reserve.new.self ++ tasks_at c.write.new.self is) c.as_slice.ensures.value
+    ∙ ap (λ ts. ts ++ tasks_at c.write.new.self (vec_items c.in_ok-woken.woken)) c.reserve.ensures.items
 
-pub invariant-of-self-2 : goal.invariant-of-self-2
-invariant-of-self-2 c =
+pub invariant_of-self-2 : goal.invariant_of-self-2
+invariant_of-self-2 c =
     let s = c.args.self.now.ledger in
     let s' = c.write.new.self in
     let raw = deque_items c.args.self.now.tasks in
-    let raw' = deque_items c.list-all.new.tasks in
-    let woken = vec_items c.in-ok-woken.woken in
-    let change = change_write s s' c.args.place c.in-ok-outcome.outcome c.in-ok-outcome.ensures woken c.in-ok-woken.ensures.woken in
+    let raw' = deque_items c.list_all.new.tasks in
+    let woken = vec_items c.in_ok-woken.woken in
+    let change = change_write s s' c.args.place c.in_ok-outcome.outcome c.in_ok-outcome.ensures woken c.in_ok-woken.ensures.woken in
     record {
       once = once_after s s' raw raw' (tasks_at s' woken) change (extended c) c.args.self.now.listed c.args.self.now.once;
       listed = listed_after s s' raw raw' (tasks_at s' woken) change (extended c) c.args.self.now.listed;
@@ -42,12 +42,12 @@ invariant-of-self-2 c =
 
 pub returns : goal.returns
 returns c =
-    let d = (goal.at.returns c).After-list-all in
+    let d = (goal.at.returns c).After-list_all in
     let s = c.args.self.now.ledger in
     let s' = c.write.new.self in
     let raw = deque_items c.args.self.now.tasks in
-    let raw' = deque_items c.list-all.new.tasks in
-    let woken = vec_items c.in-ok-woken.woken in
-    let wrote = c.in-ok-outcome.ensures in
-    let change = change_write s s' c.args.place c.in-ok-outcome.outcome wrote woken c.in-ok-woken.ensures.woken in
-    (wrote, becomes s s' raw raw' (tasks_at s' woken) change (extended d) c.args.self.now.listed, (tasks_at s' woken, extended d), ends_write s s' c.args.place c.in-ok-outcome.outcome wrote)
+    let raw' = deque_items c.list_all.new.tasks in
+    let woken = vec_items c.in_ok-woken.woken in
+    let wrote = c.in_ok-outcome.ensures in
+    let change = change_write s s' c.args.place c.in_ok-outcome.outcome wrote woken c.in_ok-woken.ensures.woken in
+    (wrote, becomes s s' raw raw' (tasks_at s' woken) change (extended d) c.args.self.now.listed, (tasks_at s' woken, extended d), ends_write s s' c.args.place c.in_ok-outcome.outcome wrote)
