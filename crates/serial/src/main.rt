@@ -1,13 +1,15 @@
 // `serial [FILE]`: does the orders of a log one by one and prints the values that they leave.
 #![tactic(auto)]
 
+mod failure;
 mod row;
 
-use anyhow::anyhow;
+use failure::Failure;
 use line::{Execution, Store};
 use row::spell;
 use std::fs::File;
 use std::io::{BufWriter, Read, Write};
+use std::process::ExitCode;
 use std::{env, io};
 
 // How many bytes are read at once.
@@ -21,21 +23,21 @@ whose value is not 0, keys rising. On standard error: a line for each malformed
 order, with its place and the number of its refusal, and how many were done.
 ";
 
-fn main(rt: HostRuntime) -> anyhow::Result<()> {
+fn main(rt: HostRuntime) -> ExitCode {
     match run(&rt) {
-        Ok(()) => Ok(()),
+        Ok(()) => ExitCode::SUCCESS,
         Err(e) => {
-            eprintln!(rt; "serial: {e}")?;
-            Err(e)
+            let _ = eprintln!(rt; "serial: {e}");
+            ExitCode::FAILURE
         }
     }
 }
 
-fn run(rt: &HostRuntime) -> anyhow::Result<()> {
+fn run(rt: &HostRuntime) -> Result<(), Failure> {
     let mut args = env::args(rt)?.skip(1);
     let first = args.next();
     if args.next().is_some() {
-        return Err(anyhow!("more than one argument: see 'serial --help'"));
+        return Err(Failure::Arguments);
     }
     match first {
         None => serial(rt, "line"),
@@ -49,11 +51,11 @@ fn run(rt: &HostRuntime) -> anyhow::Result<()> {
     }
 }
 
-fn serial(rt: &HostRuntime, path: &str) -> anyhow::Result<()> {
+fn serial(rt: &HostRuntime, path: &str) -> Result<(), Failure> {
     let mut execution = Execution::new(rt.alloc())?;
     if let Err(e) = read(rt, path, &mut execution) {
         let text = format!(in rt.alloc(); "{path}: {e}")?;
-        return Err(text.into());
+        return Err(Failure::File(text));
     }
     print_values(rt, execution.store())?;
     print_report(rt, &execution)
@@ -73,7 +75,7 @@ fn read(rt: &HostRuntime, path: &str, execution: &mut Execution) -> io::Result<(
     Ok(())
 }
 
-fn print_values(rt: &HostRuntime, store: &Store) -> anyhow::Result<()> {
+fn print_values(rt: &HostRuntime, store: &Store) -> Result<(), Failure> {
     let mut out = BufWriter::new(rt.alloc(), rt.stdout())?;
     let mut row = [0; 17];
     for key in 0..=u16::MAX {
@@ -87,7 +89,7 @@ fn print_values(rt: &HostRuntime, store: &Store) -> anyhow::Result<()> {
     Ok(())
 }
 
-fn print_report(rt: &HostRuntime, execution: &Execution) -> anyhow::Result<()> {
+fn print_report(rt: &HostRuntime, execution: &Execution) -> Result<(), Failure> {
     let mut out = BufWriter::new(rt.alloc(), rt.stderr())?;
     for place in execution.malformed() {
         writeln!(out, "place {place}: refused 1, malformed order")?;

@@ -2,24 +2,23 @@
 #![tactic(auto)]
 
 mod bench;
+mod failure;
 mod pieces;
 mod play;
 mod script;
 
-use anyhow::anyhow;
 use bench::{Bench, peak};
-use ledger::Refusal;
+use failure::Failure;
 use play::play;
 use script::number;
 use shard::House;
 use std::fs::File;
 use std::io::{BufWriter, Read, Write};
+use std::process::ExitCode;
 use std::{env, fs, io};
 
 // How many bytes are read at once.
 const PIECE: usize = 131_072;
-
-const USAGE: &str = "three arguments are wanted: see 'solo --help'";
 
 const HELP: &str = "solo HOUSE LINE SCRIPT
 solo --bench HOUSE LINE
@@ -41,29 +40,29 @@ its keys whose value is not 0, and on standard error 'memory BYTES', the most
 that it had.
 ";
 
-fn main(rt: HostRuntime) -> anyhow::Result<()> {
+fn main(rt: HostRuntime) -> ExitCode {
     match run(&rt) {
-        Ok(()) => Ok(()),
+        Ok(()) => ExitCode::SUCCESS,
         Err(e) => {
-            eprintln!(rt; "solo: {e}")?;
-            Err(e)
+            let _ = eprintln!(rt; "solo: {e}");
+            ExitCode::FAILURE
         }
     }
 }
 
-fn run(rt: &HostRuntime) -> anyhow::Result<()> {
+fn run(rt: &HostRuntime) -> Result<(), Failure> {
     let mut args = env::args(rt)?.skip(1);
     let Some(first) = args.next() else {
-        return Err(USAGE.into());
+        return Err(Failure::Arguments);
     };
     let Some(second) = args.next() else {
         return help(rt, first.as_str());
     };
     let Some(third) = args.next() else {
-        return Err(USAGE.into());
+        return Err(Failure::Arguments);
     };
     if args.next().is_some() {
-        return Err(USAGE.into());
+        return Err(Failure::Arguments);
     }
     match first.as_str() {
         "--bench" => measure(rt, second.as_str(), third.as_str()),
@@ -71,17 +70,17 @@ fn run(rt: &HostRuntime) -> anyhow::Result<()> {
     }
 }
 
-fn help(rt: &HostRuntime, word: &str) -> anyhow::Result<()> {
+fn help(rt: &HostRuntime, word: &str) -> Result<(), Failure> {
     match word {
         "--help" => {
             rt.print(HELP)?;
             Ok(())
         }
-        _ => Err(USAGE.into()),
+        _ => Err(Failure::Arguments),
     }
 }
 
-fn solo(rt: &HostRuntime, house: &str, line: &str, script: &str) -> anyhow::Result<()> {
+fn solo(rt: &HostRuntime, house: &str, line: &str, script: &str) -> Result<(), Failure> {
     let house = new_house(rt, house)?;
     let log = read(rt, line)?;
     let script = read(rt, script)?;
@@ -97,27 +96,17 @@ fn solo(rt: &HostRuntime, house: &str, line: &str, script: &str) -> anyhow::Resu
     Ok(())
 }
 
-fn new_house(rt: &HostRuntime, word: &str) -> anyhow::Result<House> {
+fn new_house(rt: &HostRuntime, word: &str) -> Result<House, Failure> {
     let Some(number) = number(word.as_bytes()) else {
-        return Err(anyhow!("HOUSE is a number from 0 to 15"));
+        return Err(Failure::House);
     };
     if number >= 16 {
-        return Err(anyhow!("HOUSE is a number from 0 to 15"));
+        return Err(Failure::House);
     }
-    match House::new(rt.alloc(), number as u8) {
-        Ok(house) => Ok(house),
-        Err(refusal) => Err(reason(rt, refusal)),
-    }
+    Ok(House::new(rt.alloc(), number as u8)?)
 }
 
-fn reason(rt: &HostRuntime, refusal: Refusal) -> anyhow::Error {
-    match format!(in rt.alloc(); "{refusal}") {
-        Ok(text) => text.into(),
-        Err(e) => e.into(),
-    }
-}
-
-fn read(rt: &HostRuntime, path: &str) -> anyhow::Result<Vec<u8>> {
+fn read(rt: &HostRuntime, path: &str) -> Result<Vec<u8>, Failure> {
     match fs::read(rt, path) {
         Ok(bytes) => Ok(bytes),
         Err(e) => Err(about(rt, path, e)),
@@ -125,14 +114,14 @@ fn read(rt: &HostRuntime, path: &str) -> anyhow::Result<Vec<u8>> {
 }
 
 // What went wrong with a file.
-fn about(rt: &HostRuntime, path: &str, error: io::Error) -> anyhow::Error {
+fn about(rt: &HostRuntime, path: &str, error: io::Error) -> Failure {
     match format!(in rt.alloc(); "{path}: {error}") {
-        Ok(text) => text.into(),
+        Ok(text) => Failure::File(text),
         Err(e) => e.into(),
     }
 }
 
-fn measure(rt: &HostRuntime, house: &str, line: &str) -> anyhow::Result<()> {
+fn measure(rt: &HostRuntime, house: &str, line: &str) -> Result<(), Failure> {
     let mut bench = Bench::new(rt.alloc(), new_house(rt, house)?);
     feed(rt, line, &mut bench)?;
     let mut out = BufWriter::new(rt.alloc(), rt.stdout())?;
@@ -142,7 +131,7 @@ fn measure(rt: &HostRuntime, house: &str, line: &str) -> anyhow::Result<()> {
 }
 
 // Reads the file by pieces, all through one room.
-fn feed(rt: &HostRuntime, path: &str, bench: &mut Bench) -> anyhow::Result<()> {
+fn feed(rt: &HostRuntime, path: &str, bench: &mut Bench) -> Result<(), Failure> {
     let mut file = match File::open(rt, path) {
         Ok(file) => file,
         Err(e) => return Err(about(rt, path, e)),
@@ -156,17 +145,13 @@ fn feed(rt: &HostRuntime, path: &str, bench: &mut Bench) -> anyhow::Result<()> {
         if count == 0 {
             break;
         }
-        if let Err(refusal) = bench.push(&room[0..count]) {
-            return Err(reason(rt, refusal));
-        }
+        bench.push(&room[0..count])?;
     }
-    match bench.finish() {
-        Ok(()) => Ok(()),
-        Err(refusal) => Err(reason(rt, refusal)),
-    }
+    bench.finish()?;
+    Ok(())
 }
 
-fn print_memory(rt: &HostRuntime) -> anyhow::Result<()> {
+fn print_memory(rt: &HostRuntime) -> Result<(), Failure> {
     if let Ok(status) = fs::read(rt, "/proc/self/status") {
         if let Some(bytes) = peak(status.as_slice()) {
             eprintln!(rt; "memory {bytes}")?;

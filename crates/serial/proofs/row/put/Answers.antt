@@ -4,8 +4,8 @@ use Rattle.std.proofs.lemmas.List.{length-set}
 use Rattle.serial.proofs.Rows.{put_last, put_more, length_step}
 use Rattle.serial.proofs.row.put.Goals as goal
 
-pub overflow-sub-at : goal.overflow-sub-at
-overflow-sub-at c = omega (arith, decimal_nonempty c.loop-left.left (omega arith))
+pub overflow_sub-at : goal.overflow_sub-at
+overflow_sub-at c = omega (arith, decimal_nonempty c.loop-left.left (omega arith))
 
 pub bounds-row-at : goal.bounds-row-at
 bounds-row-at c = omega arith
@@ -21,8 +21,8 @@ loop-left-preserved c =
       put_more c.loop-left.row c.loop-left.at c.loop-left.left (omega arith) (omega arith) c.loop-left-test.true (omega arith) ∙ c.loop-left.invariant.4,
     )
 
-pub overflow-sub-at-2 : goal.overflow-sub-at-2
-overflow-sub-at-2 c = omega (arith, decimal_nonempty c.loop-left.left (omega arith))
+pub overflow_sub-at-2 : goal.overflow_sub-at-2
+overflow_sub-at-2 c = omega (arith, decimal_nonempty c.loop-left.left (omega arith))
 
 pub bounds-row-at-2 : goal.bounds-row-at-2
 bounds-row-at-2 c = omega arith

@@ -6,8 +6,8 @@ use Rattle.serial.proofs.row.spell.Goals as goal
 pub put-at-requires : goal.put-at-requires
 put-at-requires c = (omega (arith, value_long c.args.value (omega arith)), omega arith)
 
-pub overflow-sub-at : goal.overflow-sub-at
-overflow-sub-at c = omega (arith, value_long c.args.value (omega arith))
+pub overflow_sub-at : goal.overflow_sub-at
+overflow_sub-at c = omega (arith, value_long c.args.value (omega arith))
 
 pub put-requires : goal.put-requires
 put-requires c = (omega (arith, value_long c.args.value (omega arith), key_long c.from.result (omega arith)), omega arith)

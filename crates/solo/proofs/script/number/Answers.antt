@@ -4,9 +4,9 @@ use Rattle.solo.specs.Number.{read_on}
 use Rattle.solo.proofs.Numbers.{read_goes_on, read_off}
 use Rattle.solo.proofs.script.number.Goals as goal
 
-pub returns-in-default : goal.returns-in-default
-returns-in-default c =
-    sym (read_off c.loop-byte.number c.loop-byte.byte-index c.args.word.now c.loop-byte-test.true c.in-default.ensures)
+pub returns-in_default : goal.returns-in_default
+returns-in_default c =
+    sym (read_off c.loop-byte.number c.loop-byte.byte-index c.args.word.now c.loop-byte-test.true c.in_default.ensures)
     ∙ c.loop-byte.invariant
 
 pub loop-byte-preserved : goal.loop-byte-preserved
