@@ -1,9 +1,9 @@
 -- Whether a house may look or write is what the machine says, both ways.
-use Rattle.std.proofs.Common.{◌≡◌, ℕ, suc, ◌%◌, ◌<◌, ◌≤◌, Bool, true, false, cond, not, ◌&&◌, ◌||◌, eqb, leb, ◌⊎◌, List, [], ◌∷◌, map, length, get_or, is_some, Some, None, Decides, filter, Option, unwrap_or, sym, refl, ap, ◌∙◌, subst, inl, inr, arith}
-use Rattle.std.proofs.lemmas.Bool.{both_ways, not-true, not-false, not_from_false, not_from_true, and_parts, and_from, and_left, and_cases, or_cases, or_left, or_right, cases_Bool, cond-true, cond-false, cond_both, eqb-true, eq-eqb, ne_eqb, leb-true}
+use Rattle.std.proofs.Common.{◌≡◌, ℕ, suc, ◌%◌, ◌<◌, ◌≤◌, Bool, true, false, cond, not, ◌&&◌, ◌||◌, eqb, leb, List, [], ◌∷◌, length, get_or, is_some, Some, None, Decides, filter, Option, unwrap_or, sym, refl, ap, ◌∙◌, inl, inr, arith}
+use Rattle.std.proofs.lemmas.Bool.{both_ways, not-true, not_from_false, and_parts, and_from, and_left, and_cases, or_cases, or_left, or_right, cases_Bool, cond-true, cond-false, eqb-true, eq-eqb, ne_eqb, leb-true}
 use Rattle.orders.specs.Transaction.{Transaction, lookup, is_in}
 use Rattle.orders.specs.Valid.{rising}
-use Rattle.protocol.specs.Log.{at, some, reads, writes, writes_in, own_reads, effect}
+use Rattle.protocol.specs.Log.{at, some, reads, writes, writes_in, effect}
 use Rattle.protocol.specs.House.{House, Ready, knows, from_note, base}
 use Rattle.protocol.specs.Machine.{Message, look, write, Act, looks, writes_its}
 use Rattle.protocol.proofs.Standing.{reads_from_reads_in}
@@ -11,7 +11,7 @@ use Rattle.rows.specs.Lists.{rows_of}
 use Rattle.turns.specs.Marks.{ready}
 use Rattle.turns.specs.State.{marks_of, done_of, count_of}
 use Rattle.turns.specs.declared.entry.Mark.{Mark}
-use Rattle.ledger.specs.Own.{owns, marks_for, marked, note_of, slot_of, known, own_known, given, slot_count}
+use Rattle.ledger.specs.Own.{owns, marks_for, marked, note_of, slot_of, known, own_known, given}
 use Rattle.ledger.specs.State.{log_of, order_at, slots_at, looked_at, state_of, may_look, may_write, CanLook, CanWrite}
 use Rattle.ledger.specs.declared.ledger.Ledger.{Ledger}
 use Rattle.ledger.proofs.Conflicts.{marked_reads}

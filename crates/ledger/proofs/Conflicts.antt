@@ -1,6 +1,6 @@
 -- Orders that conflict by their marks are those that meet at a key of the house.
-use Rattle.std.proofs.Common.{◌≡◌, ℕ, ◌+◌, ◌*◌, ◌/◌, ◌%◌, ◌<◌, Bool, true, false, cond, not, ◌&&◌, ◌||◌, eqb, ◌⊎◌, List, [], ◌∷◌, ◌++◌, filter, sym, refl, ap, ◌∙◌, inl, inr, arith}
-use Rattle.std.proofs.lemmas.Bool.{both_ways, eqb-true, eq-eqb, cond-true, cond-false, cond_both, cases_Bool, and_parts, and_from, or_cases, or_parts, or_left, or_right}
+use Rattle.std.proofs.Common.{◌≡◌, ℕ, ◌%◌, Bool, true, false, ◌&&◌, ◌||◌, eqb, ◌⊎◌, List, [], ◌∷◌, ◌++◌, filter, sym, refl, ap, ◌∙◌, inl, inr, arith}
+use Rattle.std.proofs.lemmas.Bool.{both_ways, eqb-true, eq-eqb, cond-true, cond-false, cond_both, cases_Bool, and_parts, and_from, or_cases, or_left, or_right}
 use Rattle.orders.specs.Transaction.{Transaction, is_in}
 use Rattle.protocol.specs.Log.{some}
 use Rattle.turns.specs.Marks.{slot, blocks, conflicts}

@@ -1,11 +1,11 @@
 -- What a ledger says of its orders is what the machine says of the house.
-use Rattle.std.proofs.Common.{◌≡◌, ℕ, ◌%◌, ◌<◌, ◌≤◌, Bool, true, false, cond, not, ◌&&◌, ◌||◌, ltb, List, [], ◌∷◌, ◌++◌, map, length, get_or, is_some, Some, None, vec_items, filter, Option, sym, refl, ap, ◌∙◌, inl, inr, arith}
+use Rattle.std.proofs.Common.{◌≡◌, ℕ, ◌%◌, ◌<◌, Bool, true, false, cond, not, ◌&&◌, ◌||◌, List, [], ◌∷◌, ◌++◌, is_some, Some, None, filter, sym, refl, ap, ◌∙◌, inl, inr, arith}
 use Rattle.std.proofs.lemmas.List.{length-map, get_or-map, get_or_append_left, get_or_past}
-use Rattle.std.proofs.lemmas.Bool.{both_ways, le-ltb, cond-true, cond-false, cases_Bool, cases_lt}
+use Rattle.std.proofs.lemmas.Bool.{both_ways, le-ltb, cases_Bool, cases_lt}
 use Rattle.orders.specs.Meaning.{transaction}
 use Rattle.orders.specs.Transaction.{Transaction, idle}
-use Rattle.protocol.specs.Log.{at, some, own_reads, own_writes, reads, writes, conflict}
-use Rattle.protocol.specs.House.{House, done, Ready}
+use Rattle.protocol.specs.Log.{at, some, own_reads, reads, writes, conflict}
+use Rattle.protocol.specs.House.{done, Ready}
 use Rattle.rows.specs.Lists.{rows_of}
 use Rattle.turns.specs.Marks.{ready, conflicts}
 use Rattle.turns.specs.State.{marks_of, done_of, count_of}

@@ -10,7 +10,7 @@ use Rattle.orders.specs.Valid.{rising}
 use Rattle.orders.specs.declared.order.Order.{Order}
 use Rattle.orders.specs.declared.outcome.Outcome.{Outcome}
 use Rattle.orders.specs.declared.outcome.Outcome.TheVariants.{Nothing, Writes}
-use Rattle.protocol.specs.Log.{at, reads, writes, writes_in, effect}
+use Rattle.protocol.specs.Log.{at, writes_in, effect}
 use Rattle.protocol.specs.House.{House, base, from_note, knows}
 use Rattle.protocol.specs.Machine.{Message, write, writes_its, put, Act}
 use Rattle.protocol.proofs.Standing.{map_agree, reads_from_reads_in}

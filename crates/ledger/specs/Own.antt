@@ -16,7 +16,7 @@
 --   telling h ks ns vs    the slots, once house h has told the values ns
 --   told h ks vs      the house has told before: its first key has a value
 -- Assumes nothing.
-use Rattle.std.specs.Prelude.{ℕ, zero, suc, ◌/◌, ◌%◌, Bool, true, false, cond, not, ◌&&◌, ◌||◌, List, [], ◌∷◌, ◌++◌, map, length, is_some, Some, None, Option, ◌==◌, slice_index}
+use Rattle.std.specs.Prelude.{ℕ, zero, suc, ◌/◌, ◌%◌, Bool, true, false, cond, ◌&&◌, ◌||◌, List, [], ◌∷◌, ◌++◌, map, length, is_some, Some, None, Option, ◌==◌, slice_index}
 use Rattle.std.specs.Option.{unwrap_or}
 use Rattle.orders.specs.Transaction.{Transaction}
 use Rattle.turns.specs.declared.entry.Mark.{Mark}

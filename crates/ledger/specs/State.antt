@@ -22,7 +22,6 @@ use Rattle.protocol.specs.House.{House, fresh, base}
 use Rattle.protocol.specs.Machine.{Message, Deed, grow, look, write, hear, told, Act}
 use Rattle.rows.specs.Lists.{rows_of, Wanting}
 use Rattle.turns.specs.Marks.{ready}
-use Rattle.turns.specs.Rooms.{Cramped}
 use Rattle.turns.specs.State as turns
 use Rattle.turns.specs.State.{marks_of, done_of, count_of}
 use Rattle.ledger.specs.Own.{owns, own_count, marks_for, marked, slot_count, note_of, slot_of, known, given, noting, telling, told as toldBy}

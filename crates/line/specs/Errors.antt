@@ -3,7 +3,7 @@
 --   Refuses e length orders wanting   what holds where the log answers e: for an order of so many bytes, with so many orders in the log;
 --                                     wanting: more memory was needed than was at hand. The lowest number wins
 -- Assumes nothing.
-use Rattle.std.specs.Prelude.{◌≡◌, ℕ, ◌<◌, ◌≤◌, Some, None, Option}
+use Rattle.std.specs.Prelude.{ℕ, ◌<◌, ◌≤◌, Some, None, Option}
 use Rattle.line.specs.declared.log.error.LogError.{LogError}
 use Rattle.line.specs.declared.log.error.LogError.TheVariants.{Oversize, Full, Memory}
 

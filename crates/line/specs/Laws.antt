@@ -3,7 +3,7 @@
 --   FramesOnly    what is found stands there, framed, and what is left behind it begins with no whole order
 --   CutsAnywhere  cutting the bytes at any place leaves a first part of the log: exactly the orders that end before the cut
 -- Assumes nothing.
-use Rattle.std.specs.Prelude.{◌≡◌, ℕ, suc, ◌<◌, ◌≤◌, List, [], ◌++◌, length, take, ◌≢◌}
+use Rattle.std.specs.Prelude.{◌≡◌, ℕ, suc, ◌<◌, ◌≤◌, List, ◌++◌, length, take, ◌≢◌}
 use Rattle.std.specs.List.{flat_map}
 use Rattle.orders.specs.Laws.{Bytes}
 use Rattle.line.specs.Frames.{framed, frames, extent, tail_of}

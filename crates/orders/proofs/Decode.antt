@@ -1,10 +1,9 @@
 -- From the parts that were read to the whole order, and from there to what the bytes encode.
-use Rattle.std.proofs.Common.{◌≡◌, ℕ, ◌-◌, ◌<◌, ◌≤◌, Bool, true, false, cond, ◌&&◌, leb, List, [], ◌∷◌, length, get_or, take, Some, None, Option, sym, refl, ap, ◌∙◌, arith}
-use Rattle.std.specs.List.{AllByRecursion as All}
+use Rattle.std.proofs.Common.{◌≡◌, ℕ, ◌<◌, ◌≤◌, true, ◌&&◌, leb, List, [], ◌∷◌, length, get_or, take, Some, None, sym, refl, ap, ◌∙◌, arith}
 use Rattle.std.proofs.ByRecursion.{All-from_get_or}
 use Rattle.std.proofs.lemmas.List.{length-take}
 use Rattle.std.proofs.lemmas.Bool.{le-leb, and_from, and_parts}
-use Rattle.orders.specs.Codec.{Read, key_in, keys_in, code_in, list_in, only, ended, and_then, encoded, decoded}
+use Rattle.orders.specs.Codec.{keys_in, code_in, ended, and_then, encoded, decoded}
 use Rattle.orders.specs.Contents.{Contents, contents_of, keys_of, key_set, nothing, program, valid}
 use Rattle.orders.specs.Laws.{Bytes}
 use Rattle.orders.specs.Valid.{rising, all_fit}

@@ -2,12 +2,12 @@
 --   shadow      what a house's own slot for a key holds by the log, before the order at a place
 --   Settled     the orders that write a key in the house and are done there are those before a place, and the value is what the slot holds there
 --   Good        what holds of one house; Inv: of all, and of what was sent
-use Rattle.std.proofs.Common.{◌≡◌, ℕ, zero, suc, ◌<◌, ◌≤◌, Bool, true, false, cond, ◌⊎◌, List, map, is_some, Some, None}
+use Rattle.std.proofs.Common.{◌≡◌, ℕ, zero, suc, ◌<◌, ◌≤◌, true, false, cond, ◌⊎◌, List, map, is_some, Some}
 use Rattle.std.specs.List.{ContainsAt as Has}
 use Rattle.orders.specs.Transaction.{Transaction}
 use Rattle.protocol.specs.Log.{houses, stood, reads_in, writes_in, own_reads, reads}
-use Rattle.protocol.specs.House.{House, done, Plan}
-use Rattle.protocol.specs.Machine.{Message, told, copied, Net}
+use Rattle.protocol.specs.House.{House, done}
+use Rattle.protocol.specs.Machine.{told, copied, Net}
 
 module _ (os : List Transaction) (own : ℕ → ℕ → ℕ) (first : ℕ → ℕ) where
   unfoldable pub shadow : ℕ → ℕ → ℕ → ℕ

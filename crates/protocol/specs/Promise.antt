@@ -22,7 +22,7 @@ use Rattle.std.specs.List.{ContainsAt as Has, AllByRecursion as All}
 use Rattle.orders.specs.Transaction.{Transaction, is_in, serial}
 use Rattle.protocol.specs.Log.{houses, at, writes_in, own_reads, conflict}
 use Rattle.protocol.specs.House.{House, done, knows, Plan, Sound, base}
-use Rattle.protocol.specs.Machine.{Message, told, Deed, look, write, calm, plain, Net, start, Step, Run}
+use Rattle.protocol.specs.Machine.{told, Deed, look, write, calm, plain, Net, start, Step, Run}
 
 pub data Phase : Type 0 where
   looking : Phase

@@ -1,20 +1,17 @@
 -- What may be done after an order comes, a look, a write, or what is told.
-use Rattle.std.proofs.Common.{◌≡◌, ℕ, zero, suc, ◌<◌, ◌≤◌, Bool, true, false, cond, not, ◌&&◌, ◌||◌, eqb, ltb, leb, ◌⊎◌, List, [], ◌∷◌, ◌++◌, length, get_or, set, Some, None, vec_items, vec_len, Option, sym, refl, ap, ◌∙◌, inl, inr, arith}
+use Rattle.std.proofs.Common.{◌≡◌, ℕ, zero, suc, ◌<◌, ◌≤◌, Bool, true, false, cond, not, ◌&&◌, ◌||◌, eqb, ltb, leb, List, [], ◌∷◌, length, get_or, set, Some, None, sym, refl, ap, ◌∙◌, inl, inr, arith}
 use Rattle.std.proofs.lemmas.List.{get_or-set_same, get_or-set_other}
-use Rattle.std.proofs.lemmas.Bool.{both_ways, not-true, not-false, not_from_false, not_from_true, and_parts, and_from, and_left, and_right, or_cases, or_left, or_right, cases_Bool, cases_eq, cond-true, cond-false, eqb-true, eq-eqb, ne_eqb, leb-true, le-leb, lt-ltb}
+use Rattle.std.proofs.lemmas.Bool.{both_ways, not-true, not_from_false, and_parts, and_from, and_left, and_right, or_cases, or_left, or_right, cases_Bool, cases_eq, cond-true, cond-false, eqb-true, eq-eqb, ne_eqb, leb-true, le-leb, lt-ltb}
 use Rattle.orders.specs.Transaction.{is_in}
 use Rattle.orders.specs.Valid.{rising}
-use Rattle.rows.specs.Lists.{rows_of}
-use Rattle.turns.specs.Marks.{put, ready, clear, conflicts, wakes}
+use Rattle.turns.specs.Marks.{put, ready, clear, conflicts}
 use Rattle.turns.specs.State.{marks_of, done_of, count_of, Wakes}
 use Rattle.turns.specs.declared.entry.Mark.{Mark}
-use Rattle.turns.proofs.Looking.{clear_put_later}
 use Rattle.ledger.specs.Own.{marked, known}
 use Rattle.ledger.specs.State.{looked_at, slots_at, may_look, may_write}
 use Rattle.ledger.specs.declared.ledger.Ledger.{Ledger}
 use Rattle.ledger.proofs.Ties.{marked_within}
-use Rattle.shard.specs.State.{Ends}
-use Rattle.shard.specs.Tasks.{place_of, same_task, has, live, may_do, task_at, tasks_at, listed, places}
+use Rattle.shard.specs.Tasks.{place_of, has, live, may_do, tasks_at, listed, places}
 use Rattle.shard.specs.declared.task.Task.{Task}
 use Rattle.shard.specs.declared.task.Task.TheVariants.{Look, Write}
 

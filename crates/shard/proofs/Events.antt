@@ -1,7 +1,7 @@
 -- How the list of tasks changes with each event.
-use Rattle.std.proofs.Common.{◌≡◌, ℕ, zero, suc, ◌+◌, ◌<◌, ◌≤◌, Bool, true, false, cond, not, ◌&&◌, ◌||◌, eqb, leb, ◌⊎◌, List, [], ◌∷◌, ◌++◌, length, get_or, set, replicate, is_some, Some, None, vec_items, vec_len, deque_len, deque_capacity, filter, Option, sym, refl, ap, ◌∙◌, subst, inl, inr, arith}
-use Rattle.std.proofs.lemmas.List.{append-nil, get_or_append_left, get_or_past, get_or-set_same, get_or-set_other, length_push}
-use Rattle.std.proofs.lemmas.Bool.{both_ways, not-true, not-false, not_from_false, not_from_true, and_parts, and_from, and_left, and_right, or_cases, or_left, or_right, cases_Bool, cases_eq, cases_lt, cond-true, cond-false, eqb-true, eq-eqb, ne_eqb, le-leb}
+use Rattle.std.proofs.Common.{◌≡◌, ℕ, zero, suc, ◌+◌, ◌<◌, ◌≤◌, Bool, true, false, cond, not, ◌&&◌, ◌||◌, eqb, leb, ◌⊎◌, List, [], ◌∷◌, ◌++◌, length, get_or, set, replicate, is_some, None, vec_items, deque_len, deque_capacity, filter, Option, sym, refl, ap, ◌∙◌, inl, inr, arith}
+use Rattle.std.proofs.lemmas.List.{get_or_past, get_or-set_same, get_or-set_other}
+use Rattle.std.proofs.lemmas.Bool.{both_ways, not-true, and_from, and_left, and_right, or_left, cases_Bool, cases_eq, cases_lt, cond-true, cond-false, eq-eqb, ne_eqb, le-leb}
 use Rattle.orders.specs.Transaction.{is_in}
 use Rattle.orders.specs.Valid.{rising}
 use Rattle.orders.specs.Meaning.{transaction}
@@ -11,7 +11,7 @@ use Rattle.turns.specs.Marks.{put, ready, clear, conflicts}
 use Rattle.turns.specs.State.{marks_of, done_of, count_of, Wakes, Waking}
 use Rattle.turns.specs.declared.entry.Mark.{Mark}
 use Rattle.ledger.specs.Own.{owns, own_count, marks_for, marked, slot_count, known, noting, telling, told}
-use Rattle.ledger.specs.State.{order_at, value_in, looked_at, slots_at, may_look, may_write, Same, Kept, Grown, Looked, Wrote, Heard}
+use Rattle.ledger.specs.State.{order_at, value_in, looked_at, slots_at, may_look, may_write, Same, Grown, Looked, Wrote, Heard}
 use Rattle.ledger.specs.declared.ledger.Ledger.{Ledger}
 use Rattle.turns.proofs.Looking.{clear_none}
 use Rattle.ledger.proofs.Asking.{slots_wide}
@@ -19,7 +19,7 @@ use Rattle.ledger.proofs.Growing.{others_stay}
 use Rattle.ledger.proofs.Ties.{marked_within}
 use Rattle.shard.specs.State.{Becomes, Ends, Cramped}
 use Rattle.shard.specs.declared.house.House.{House}
-use Rattle.shard.specs.Tasks.{place_of, same_task, has, distinct, live, may_do, task_at, tasks_at, listed, places}
+use Rattle.shard.specs.Tasks.{place_of, has, distinct, live, may_do, tasks_at, places}
 use Rattle.shard.specs.declared.task.Task.{Task}
 use Rattle.shard.specs.declared.task.Task.TheVariants.{Look, Write}
 use Rattle.shard.proofs.Listing.{listed_still, once_still, list_becomes}

@@ -1,7 +1,6 @@
 -- The list of tasks after a step: none is lost, none is listed twice.
-use Rattle.std.proofs.Common.{◌≡◌, ℕ, suc, ◌<◌, ◌≤◌, Bool, true, false, cond, not, ◌&&◌, ◌||◌, eqb, leb, ◌⊎◌, List, [], ◌∷◌, ◌++◌, filter, sym, refl, ap, ◌∙◌, inl, inr, arith}
-use Rattle.std.proofs.lemmas.List.{append-nil}
-use Rattle.std.proofs.lemmas.Bool.{both_ways, not-true, not-false, not_from_false, not_from_true, and_parts, and_from, and_left, and_right, and_cases, or_cases, or_parts, or_left, or_right, or_from, cases_Bool, cond-true, cond-false, cond_both, eqb-true, eq-eqb, ne_eqb, leb-true}
+use Rattle.std.proofs.Common.{◌≡◌, ℕ, suc, ◌≤◌, Bool, true, false, cond, not, ◌&&◌, ◌||◌, leb, List, [], ◌∷◌, ◌++◌, filter, sym, refl, ap, ◌∙◌, inl, inr, arith}
+use Rattle.std.proofs.lemmas.Bool.{both_ways, not-true, not_from_false, and_parts, and_from, and_left, and_right, or_cases, or_parts, or_left, or_right, or_from, cases_Bool, cond-true, eqb-true, eq-eqb, leb-true}
 use Rattle.orders.specs.Valid.{rising}
 use Rattle.shard.specs.Tasks.{place_of, same_task, has, distinct, places}
 use Rattle.shard.specs.declared.task.Task.{Task}

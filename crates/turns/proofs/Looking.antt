@@ -3,9 +3,9 @@ use Rattle.std.proofs.Common.{◌≡◌, ℕ, zero, suc, ◌<◌, ◌≤◌, Boo
 use Rattle.std.specs.List.{AllByRecursion as All}
 use Rattle.std.proofs.ByRecursion.{All-append, All-weaker}
 use Rattle.std.proofs.lemmas.List.{append-nil}
-use Rattle.std.proofs.lemmas.Bool.{cond-true, cond-false, cond_both, cases_lt, cases_order, le-ltb, lt-ltb, eq-eqb, ne_eqb}
+use Rattle.std.proofs.lemmas.Bool.{cond-true, cond-false, cond_both, cases_lt, le-ltb, lt-ltb, ne_eqb}
 use Rattle.turns.specs.Marks.{slot, blocks, conflicts, put, free, clear}
-use Rattle.turns.specs.Queues.{entry, entered, queue, without, clear_in}
+use Rattle.turns.specs.Queues.{entry, entered, queue, clear_in}
 use Rattle.turns.specs.declared.entry.Mark.{Mark}
 use Rattle.turns.specs.declared.entry.Entry.{Entry}
 

@@ -1,8 +1,7 @@
 -- Whoever waits for an order and for no other is found where that order's keys are.
-use Rattle.std.proofs.Common.{◌≡◌, ℕ, zero, suc, ◌<◌, ◌≤◌, Bool, true, false, cond, not, ◌&&◌, ◌||◌, eqb, ltb, ◌⊎◌, List, [], ◌∷◌, ◌++◌, sym, refl, ap, ◌∙◌, inl, inr, arith}
-use Rattle.std.specs.List.{AllByRecursion as All}
+use Rattle.std.proofs.Common.{◌≡◌, ℕ, zero, suc, ◌<◌, ◌≤◌, Bool, true, false, cond, not, ◌&&◌, ◌||◌, eqb, ltb, List, [], ◌∷◌, ◌++◌, sym, refl, ap, ◌∙◌, inl, inr, arith}
 use Rattle.std.proofs.lemmas.List.{append-nil, append_assoc}
-use Rattle.std.proofs.lemmas.Bool.{both_ways, not-true, not-false, ltb-true, lt-ltb, eqb-true, eq-eqb, ne_eqb, cond-true, cond-false, cond_both, cases_Bool, cases_lt, and_parts, and_from, and_cases, or_cases, or_parts, or_left, or_right, not_from_true}
+use Rattle.std.proofs.lemmas.Bool.{both_ways, not-true, not-false, ltb-true, lt-ltb, eqb-true, eq-eqb, ne_eqb, cond-true, cond-false, cond_both, cases_Bool, cases_lt, and_parts, and_from, and_cases, or_cases, or_parts, or_left, or_right}
 use Rattle.orders.specs.Transaction.{is_in}
 use Rattle.turns.specs.Marks.{slot, blocks, conflicts, put, free, clear, ready, wakes}
 use Rattle.turns.specs.Queues.{entry, entered, queue, clear_in, next_in, nexts}

@@ -1,4 +1,4 @@
-use Rattle.std.proofs.Common.{◌≡◌, Bool, true, false, not, ◌&&◌, ap}
+use Rattle.std.proofs.Common.{◌≡◌, false, not, ◌&&◌, ap}
 use Rattle.std.proofs.lemmas.Bool.Decides.{Decides-at}
 use Rattle.turns.specs.Marks.{ready}
 use Rattle.turns.specs.State.{marks_of, done_of}

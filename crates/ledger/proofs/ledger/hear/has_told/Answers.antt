@@ -1,4 +1,4 @@
-use Rattle.std.proofs.Common.{length, None, sym, ap, ◌∙◌}
+use Rattle.std.proofs.Common.{length, None, sym, ◌∙◌}
 use Rattle.std.proofs.lemmas.Bool.{le-ltb}
 use Rattle.ledger.proofs.Telling.{told_other, told_here, told_past_slots, told_past_keys}
 use Rattle.ledger.proofs.ledger.hear.has_told.Goals as goal

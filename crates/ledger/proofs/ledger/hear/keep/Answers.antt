@@ -1,4 +1,4 @@
-use Rattle.std.proofs.Common.{sym, ap, ◌∙◌, arith}
+use Rattle.std.proofs.Common.{sym, ap, ◌∙◌}
 use Rattle.rows.specs.Lists.{rows_of}
 use Rattle.ledger.proofs.Telling.{told_none, told_one, told_not, told_all, told_enough}
 use Rattle.ledger.proofs.ledger.hear.keep.Goals as goal

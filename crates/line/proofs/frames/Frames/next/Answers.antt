@@ -1,5 +1,5 @@
-use Rattle.std.proofs.Common.{◌≡◌, ◌+◌, ◌*◌, ◌<◌, ◌≤◌, length, get_or, drop, sym, refl, ◌∙◌, arith, ltb-false, ltb-true}
-use Rattle.std.proofs.lemmas.List.{take_rest, length-take, length-drop}
+use Rattle.std.proofs.Common.{◌+◌, ◌≤◌, length, refl, ◌∙◌, arith, ltb-false, ltb-true}
+use Rattle.std.proofs.lemmas.List.{length-take, length-drop}
 use Rattle.line.proofs.Framing.{frames_short, frames_cut}
 use Rattle.line.proofs.Reading.{next_rest, next_frames}
 use Rattle.line.proofs.frames.Frames.next.Goals as goal

@@ -1,4 +1,4 @@
-use Rattle.std.proofs.Common.{◌≡◌, length, sym, ap, ◌∙◌, subst, arith}
+use Rattle.std.proofs.Common.{length, sym, ap, ◌∙◌, subst, arith}
 use Rattle.line.specs.Frames.{frames, Whole}
 use Rattle.line.proofs.Framing.{whole_nil, frames_short}
 use Rattle.line.proofs.log.Log.new.Goals as goal

@@ -1,4 +1,4 @@
-use Rattle.std.proofs.Common.{◌≡◌, get_or, ap, ◌∙◌}
+use Rattle.std.proofs.Common.{get_or, ap, ◌∙◌}
 use Rattle.line.proofs.Values.{zeros}
 use Rattle.line.proofs.store.Store.new.Goals as goal
 

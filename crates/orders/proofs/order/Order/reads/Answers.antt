@@ -1,4 +1,4 @@
-use Rattle.std.proofs.Common.{◌≡◌, length, ap, ◌∙◌, arith}
+use Rattle.std.proofs.Common.{length, ap, ◌∙◌, arith}
 use Rattle.orders.specs.Valid.{rising}
 use Rattle.orders.proofs.Decode.{keys_few}
 use Rattle.orders.proofs.order.Order.reads.Goals as goal

@@ -1,4 +1,4 @@
-use Rattle.std.proofs.Common.{◌≡◌, length, take, Some, None, sym, ap, ◌∙◌, arith, true-eqb, false-eqb}
+use Rattle.std.proofs.Common.{◌≡◌, length, take, Some, sym, ap, ◌∙◌, arith, true-eqb, false-eqb}
 use Rattle.orders.specs.Codec.{code_in, decoded}
 use Rattle.orders.specs.Contents.{keys_of}
 use Rattle.orders.proofs.Decode.{decoded_no_reads, decoded_no_writes, decoded_no_code, decoded_long, decoded_whole, found_fits}

@@ -1,4 +1,4 @@
-use Rattle.std.proofs.Common.{◌≡◌, ◌+◌, ◌-◌, List, [], take, drop, Some, ap, ◌∙◌, arith, ltb-false}
+use Rattle.std.proofs.Common.{◌≡◌, ◌+◌, ◌-◌, [], take, drop, Some, ap, ◌∙◌, arith, ltb-false}
 use Rattle.std.proofs.lemmas.List.{take_rest, take_more_set, length-set}
 use Rattle.orders.specs.Codec.{instruction_in, many, prepend}
 use Rattle.orders.proofs.Codec.{many_first, many_more, many_none, many_all, list_within}

@@ -1,5 +1,5 @@
-use Rattle.std.proofs.Common.{◌≡◌, ℕ, ◌+◌, ◌-◌, List, [], ◌∷◌, ◌++◌, length, take, drop, set, Some, sym, ap, ◌∙◌, arith, ltb-false, ltb-true}
-use Rattle.std.proofs.lemmas.List.{take_rest, take_more_set, take_all}
+use Rattle.std.proofs.Common.{◌≡◌, ◌+◌, ◌-◌, [], length, take, drop, Some, ap, ◌∙◌, arith, ltb-false, ltb-true}
+use Rattle.std.proofs.lemmas.List.{take_rest, take_more_set}
 use Rattle.orders.specs.Codec.{key_in, many, prepend}
 use Rattle.orders.proofs.Codec.{many_first, many_more, many_none, many_all, list_within, key_at, key_short}
 use Rattle.orders.proofs.order.decode.read_keys.Goals as goal

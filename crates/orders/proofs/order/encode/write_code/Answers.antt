@@ -1,4 +1,4 @@
-use Rattle.std.proofs.Common.{◌≡◌, [], ◌∷◌, ◌++◌, length, get_or, take, vec_items, sym, refl, ap, ◌∙◌}
+use Rattle.std.proofs.Common.{[], ◌∷◌, length, vec_items, refl}
 use Rattle.std.proofs.lemmas.Slice.{pushed}
 use Rattle.orders.specs.Codec.{instruction_bytes}
 use Rattle.orders.proofs.Encode.{written_more, written_all}

@@ -1,8 +1,7 @@
-use Rattle.std.proofs.Common.{◌≡◌, ◌&&◌, List, [], ◌∷◌, ◌++◌, deque_items, filter, sym, refl, ap, ◌∙◌, inl, inr}
+use Rattle.std.proofs.Common.{◌≡◌, ◌&&◌, [], ◌∷◌, ◌++◌, deque_items, filter, sym, ap, ◌∙◌, inl}
 use Rattle.std.proofs.lemmas.Result.{err_from_is_err_and}
 use Rattle.turns.specs.State.{count_of}
-use Rattle.shard.specs.Tasks.{has, distinct, live, may_do, task_at, tasks_at, listed}
-use Rattle.shard.specs.declared.task.Task.{Task}
+use Rattle.shard.specs.Tasks.{has, distinct, live, task_at, tasks_at, listed}
 use Rattle.shard.proofs.Events.{listed_after, once_after, becomes, same_live, same_may, same_kept, change_order}
 use Rattle.shard.proofs.house.House.append.Goals as goal
 use Rattle.shard.proofs.house.House.append.Goals.{After-list}

@@ -1,8 +1,8 @@
-use Rattle.std.proofs.Common.{◌≡◌, List, [], ◌∷◌, ◌++◌, deque_items, filter, sym, refl, ap, ◌∙◌, inl, inr}
+use Rattle.std.proofs.Common.{◌≡◌, [], ◌∷◌, ◌++◌, deque_items, filter, sym, ap, ◌∙◌, inl}
 use Rattle.std.proofs.lemmas.List.{append-nil}
 use Rattle.std.proofs.lemmas.Result.{err_from_is_err_and}
-use Rattle.shard.specs.Tasks.{has, distinct, live, may_do}
-use Rattle.shard.specs.declared.task.Task.TheVariants.{Look, Write}
+use Rattle.shard.specs.Tasks.{live}
+use Rattle.shard.specs.declared.task.Task.TheVariants.{Write}
 use Rattle.shard.proofs.Events.{listed_after, once_after, becomes, change_told_last, change_told}
 use Rattle.shard.proofs.house.House.hear.Goals as goal
 

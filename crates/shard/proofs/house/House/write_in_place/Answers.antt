@@ -1,7 +1,6 @@
-use Rattle.std.proofs.Common.{◌≡◌, List, [], ◌∷◌, ◌++◌, vec_items, vec_len, deque_items, sym, refl, ap, ◌∙◌, inl, inr, arith}
+use Rattle.std.proofs.Common.{◌≡◌, ◌++◌, vec_items, deque_items, sym, refl, ap, ◌∙◌, inl}
 use Rattle.std.proofs.lemmas.Result.{err_from_is_err_and}
-use Rattle.ledger.specs.Notes.{values_of}
-use Rattle.shard.specs.Tasks.{tasks_at, task_at, listed}
+use Rattle.shard.specs.Tasks.{tasks_at}
 use Rattle.shard.proofs.Events.{listed_after, once_after, becomes, change_write, ends_write, woken_some}
 use Rattle.shard.proofs.house.House.write_in_place.Goals as goal
 use Rattle.shard.proofs.house.House.write_in_place.Goals.{After-list_all}
