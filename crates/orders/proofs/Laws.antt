@@ -1,6 +1,6 @@
 -- Decoding undoes encoding, and finds nothing but encodings.
 use Rattle.std.proofs.Common.{◌≡◌, ℕ, zero, suc, ◌+◌, ◌*◌, ◌/◌, ◌%◌, Bool, true, cond, ◌&&◌, eqb, leb, List, [], ◌∷◌, ◌++◌, length, IfSome, Some, None, Option, sym, refl, ap, ◌∙◌, arith}
-use Rattle.std.specs.List.{flat_map, AllByRecursion as All}
+use Rattle.std.specs.List.{flat_map, AllByRecursion}
 use Rattle.std.proofs.ByRecursion.{All-from_get_or}
 use Rattle.std.proofs.lemmas.List.{append_assoc, append-nil}
 use Rattle.std.proofs.lemmas.Option.{MatchOption-at_some}
@@ -44,16 +44,16 @@ Front f good bs p = (f p.0 ++ p.1 ≡ bs) × good p.0 × Bytes p.1
 -- Where one reads each good thing back from its bytes, and reads nothing else, so do many and list_in.
 module _ {X : Type 0} (one : List ℕ → Read X) (f : X → List ℕ) (good : X → Type 0) where
   module _ (one-reads : (x : X) (rest : List ℕ) → good x → one (f x ++ rest) ≡ Some (x, rest)) where
-    many_reads : (xs : List X) (rest : List ℕ) → All good xs → many one (length xs) (flat_map f xs ++ rest) ≡ Some (xs, rest)
+    many_reads : (xs : List X) (rest : List ℕ) → AllByRecursion good xs → many one (length xs) (flat_map f xs ++ rest) ≡ Some (xs, rest)
     unfolding many
     many_reads [] rest h = refl
     many_reads (x ∷ xs) rest h = rw (append_assoc, one-reads x _ h.0, many_reads xs rest h.1)
 
-    list_reads : (most : ℕ) (xs : List X) (rest : List ℕ) → leb (length xs) most ≡ true → All good xs → list_in most one (counted f xs ++ rest) ≡ Some (xs, rest)
+    list_reads : (most : ℕ) (xs : List X) (rest : List ℕ) → leb (length xs) most ≡ true → AllByRecursion good xs → list_in most one (counted f xs ++ rest) ≡ Some (xs, rest)
     list_reads most xs rest e h = cond-true _ _ _ e ∙ many_reads xs rest h
 
   module _ (one-finds : (bs : List ℕ) → Bytes bs → Finds (Front f good bs) (one bs)) where
-    many_finds : (n : ℕ) (bs : List ℕ) → Bytes bs → Finds (Front (flat_map f) (λ xs. (length xs ≡ n) × All good xs) bs) (many one n bs)
+    many_finds : (n : ℕ) (bs : List ℕ) → Bytes bs → Finds (Front (flat_map f) (λ xs. (length xs ≡ n) × AllByRecursion good xs) bs) (many one n bs)
     unfolding many
     many_finds zero bs b = (refl, (refl, tt), b)
     many_finds (suc n) bs b =
@@ -63,10 +63,10 @@ module _ {X : Type 0} (one : List ℕ → Read X) (f : X → List ℕ) (good : X
         (many_finds n p.1 h.2))
         (one-finds bs b)
 
-    list_finds : (most : ℕ) (bs : List ℕ) → Bytes bs → Finds (Front (counted f) (λ xs. (leb (length xs) most ≡ true) × All good xs) bs) (list_in most one bs)
+    list_finds : (most : ℕ) (bs : List ℕ) → Bytes bs → Finds (Front (counted f) (λ xs. (leb (length xs) most ≡ true) × AllByRecursion good xs) bs) (list_in most one bs)
     list_finds most [] b = tt
     list_finds most (n ∷ bs) b =
-        cond_both (leb n most) (many one n bs) None (Finds (Front (counted f) (λ xs. (leb (length xs) most ≡ true) × All good xs) (n ∷ bs)))
+        cond_both (leb n most) (many one n bs) None (Finds (Front (counted f) (λ xs. (leb (length xs) most ≡ true) × AllByRecursion good xs) (n ∷ bs)))
         (λ e. finds_weaker _ _ (many one n bs) (λ p h. (cc, (cc, h.1.1), h.2)) (many_finds n bs b.1))
         (λ e. tt)
 
@@ -139,11 +139,11 @@ any_finds (k ∷ bs) h =
 instruction_finds : (w : ℕ) (bs : List ℕ) → Bytes bs → Finds (Front instruction_bytes (λ i. fits w i ≡ true) bs) (instruction_in w bs)
 instruction_finds w bs b = finds_only _ _ (fits w) (any_in bs) (λ p h e. (h.0, e, h.2)) (any_finds bs b)
 
-all_from_all_fit : (w : ℕ) (is : List Instruction) → all_fit w is ≡ true → All (λ i. fits w i ≡ true) is
+all_from_all_fit : (w : ℕ) (is : List Instruction) → all_fit w is ≡ true → AllByRecursion (λ i. fits w i ≡ true) is
 all_from_all_fit w [] h = tt
 all_from_all_fit w (i ∷ is) h = let p = and_parts (fits w i) (all_fit w is) h in (p.0, all_from_all_fit w is p.1)
 
-all_fit_from_all : (w : ℕ) (is : List Instruction) → All (λ i. fits w i ≡ true) is → all_fit w is ≡ true
+all_fit_from_all : (w : ℕ) (is : List Instruction) → AllByRecursion (λ i. fits w i ≡ true) is → all_fit w is ≡ true
 all_fit_from_all w [] h = refl
 all_fit_from_all w (i ∷ is) h = and_from _ _ h.0 (all_fit_from_all w is h.1)
 

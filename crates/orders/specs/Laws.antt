@@ -4,12 +4,12 @@
 --   DecodesOnly     what is decoded is a valid order, and the bytes are its encoding
 -- Assumes nothing.
 use Rattle.std.specs.Prelude.{◌≡◌, ℕ, ◌<◌, true, List, Some}
-use Rattle.std.specs.List.{AllByRecursion as All}
+use Rattle.std.specs.List.{AllByRecursion}
 use Rattle.orders.specs.Codec.{encoded, decoded}
 use Rattle.orders.specs.Contents.{Contents, valid}
 
 abbrev pub Bytes : List ℕ → Type 0
-Bytes bs = All (λ b. b < 256) bs
+Bytes bs = AllByRecursion (λ b. b < 256) bs
 
 abbrev pub DecodesAll : Type 0
 DecodesAll = (c : Contents) → valid c ≡ true → decoded (encoded c) ≡ Some c

@@ -1,6 +1,6 @@
 -- Ways from net to net by deeds of a kind, on which nothing is lost, and the word of a house brought to another.
 use Rattle.std.proofs.Common.{◌≡◌, ℕ, zero, suc, ◌+◌, ◌<◌, ◌≤◌, Bool, true, false, cond, eqb, ◌⊎◌, List, [], ◌∷◌, ◌++◌, length, is_some, Some, None, Option, sym, refl, ap, ◌∙◌, subst, inl, inr, ⊎_elim, arith}
-use Rattle.std.specs.List.{ContainsAt as Has, AllByRecursion as All}
+use Rattle.std.specs.List.{ContainsAt as Has, AllByRecursion}
 use Rattle.std.proofs.ByRecursion.{All-append, All-weaker, has_push}
 use Rattle.std.proofs.lemmas.Bool.{false≢true, both_ways, eqb-true, eq-eqb, cases_lt, cases_eq, cond-true, cond_both}
 use Rattle.orders.specs.Transaction.{Transaction, is_in, lookup}
@@ -95,7 +95,7 @@ module _ (os : List Transaction) (p : Plan) where
   pub record Leads (test : Deed → Bool) (n : Net) (P : Net → Type 0) : Type 0 where
     pub net : Net
     pub deeds : List (ℕ × Deed)
-    pub pass : All (λ d. test d.1 ≡ true) deeds
+    pub pass : AllByRecursion (λ d. test d.1 ≡ true) deeds
     pub run : Run os p deeds n net
     pub on : Later test n net
     pub holds : P net

@@ -1,6 +1,6 @@
 -- The invariant holds at the start, and every deed keeps it.
 use Rattle.std.proofs.Common.{◌≡◌, ℕ, suc, ◌-◌, ◌<◌, ◌≤◌, max, Bool, true, false, cond, ◌||◌, eqb, ltb, ◌⊎◌, List, [], ◌∷◌, ◌++◌, map, length, is_some, Some, None, Option, sym, refl, ap, ◌∙◌, subst, inl, inr, arith}
-use Rattle.std.specs.List.{ContainsAt as Has, AllByRecursion as All}
+use Rattle.std.specs.List.{ContainsAt as Has, AllByRecursion}
 use Rattle.std.proofs.ByRecursion.{all-has}
 use Rattle.std.proofs.lemmas.List.{get_or_append_left, get_or-append_right, length-append}
 use Rattle.std.proofs.lemmas.Bool.{both_ways, eqb-true, eqb-false, cond-true, cond-false, cond_both, cases_eq, cases_lt, cases_Bool, or_right, and_parts}
@@ -40,7 +40,7 @@ module _ (os : List Transaction) (p : Plan) (first : ℕ → ℕ) where
   record Onward (n : Net) (h : ℕ) (s s' : House) (sent : List Message) : Type 0 where
     good : Good os p.own first h s'
     up : s.place ≤ s'.place
-    fair : All (Fair h s') sent
+    fair : AllByRecursion (Fair h s') sent
     keeps : (i : ℕ) (vs : List ℕ) → s.noted i ≡ Some vs → s.synced i ≡ true → ((s'.noted i ≡ Some vs) × (s'.synced i ≡ true)) ⊎ Beyond os p.own first n i
     kept : (i : ℕ) → i < s'.place → reads os p.own h i ≡ true → (i < s.place) ⊎ ((is_some (s'.noted i) ≡ true) × (s'.synced i ≡ true))
     known : (g : ℕ) → g < houses → s'.copied g ≤ (n.house g).place
@@ -149,7 +149,7 @@ module _ (os : List Transaction) (p : Plan) (first : ℕ → ℕ) (sound : Sound
   on_like : (have' : ℕ) (synced' : ℕ → Bool) (heard' : ℕ → ℕ → Option ℕ) (copied' : ℕ → ℕ) (sent : List Message) →
       ((i k v : ℕ) → heard' i k ≡ Some v → v ≡ stood os first i k) → ((i : ℕ) → synced' i ≡ true → is_some (s.noted i) ≡ true) →
       ((i : ℕ) → is_some (s.noted i) ≡ true → s.synced i ≡ true → synced' i ≡ true) →
-      ((g : ℕ) → g < houses → copied' g ≤ (n.house g).place) → All (Fair h (like have' synced' heard' copied')) sent →
+      ((g : ℕ) → g < houses → copied' g ≤ (n.house g).place) → AllByRecursion (Fair h (like have' synced' heard' copied')) sent →
       Onward os p first n h s (like have' synced' heard' copied') sent
   on_like have' synced' heard' copied' sent heard_right noted synced known' fair = record {
     good = record {
@@ -168,7 +168,7 @@ module _ (os : List Transaction) (p : Plan) (first : ℕ → ℕ) (sound : Sound
     known = known';
   }
 
-  on_unchanged : (sent : List Message) → All (Fair h s) sent → Onward os p first n h s s sent
+  on_unchanged : (sent : List Message) → AllByRecursion (Fair h s) sent → Onward os p first n h s s sent
   on_unchanged sent fair = on_like s.have s.synced s.heard s.copied sent good.heard_right good.synced_noted (λ i _ t. t) known fair
 
   on_grow : Onward os p first n h s (like (suc s.have) s.synced s.heard s.copied) []

@@ -1,6 +1,6 @@
 -- Calm deeds do every order everywhere, and while one is undone, a look or a write is at most plain deeds away.
 use Rattle.std.proofs.Common.{◌≡◌, ℕ, zero, suc, ◌<◌, ◌≤◌, Bool, true, false, cond, eqb, ltb, ◌⊎◌, List, [], ◌∷◌, ◌++◌, map, length, is_some, Some, None, filter, Option, sym, refl, ap, ◌∙◌, subst, inl, inr, ⊎_elim, arith}
-use Rattle.std.specs.List.{AllByRecursion as All}
+use Rattle.std.specs.List.{AllByRecursion}
 use Rattle.std.proofs.lemmas.Bool.{true≢false, false≢true, both_ways, ltb-false, eqb-true, eq-eqb, or_cases, or_parts, or_left, or_right, cases_lt, cases_eq, cases_Bool, cond_both}
 use Rattle.orders.specs.Transaction.{Transaction, is_in}
 use Rattle.protocol.specs.Log.{houses, at, some, writes_in, own_reads, reads, writes, effect}
@@ -97,7 +97,7 @@ module _ (os : List Transaction) (p : Plan) where
       record { net = x.0; deeds = (h, d) ∷ []; pass = (e, tt); run = then stay x.1; on = x.2; holds = x.3 })
 
   abbrev Near : Net → Type 0
-  Near n = (ds : List (ℕ × Deed)) × (m l : Net) × (g : ℕ) × (d : Deed) × All (λ e. plain e.1 ≡ true) ds × Run os p ds n m × Step os p g d m l × Works d
+  Near n = (ds : List (ℕ × Deed)) × (m l : Net) × (g : ℕ) × (d : Deed) × AllByRecursion (λ e. plain e.1 ≡ true) ds × Run os p ds n m × Step os p g d m l × Works d
 
   near_from_next : (h : ℕ) (d : Deed) (n : Net) (P : Net → Type 0) → Works d → Next h d n P → Near n
   near_from_next h d n P w a = (a.deeds, a.net, a.holds.0, h, d, a.pass, a.run, a.holds.1, w)

@@ -1,6 +1,6 @@
 -- Every row of the table of worked cases holds.
 use Rattle.std.proofs.Common.{◌≡◌, ℕ, zero, suc, ◌<◌, ◌≤◌, true, false, cond, eqb, List, [], ◌∷◌, map, length, is_some, Some, None, filter, sym, refl, ap, ◌∙◌, subst, arith}
-use Rattle.std.specs.List.{AllByRecursion as All}
+use Rattle.std.specs.List.{AllByRecursion}
 use Rattle.std.proofs.lemmas.Bool.{false≢true}
 use Rattle.std.proofs.lemmas.Bool.Decides.{nat_tests}
 use Rattle.orders.specs.Transaction.{Transaction, is_in}
@@ -15,7 +15,7 @@ module _ (r : Row) (s : House) where
   LeadsTo t = Leads r.log r.house r.before (fresh (λ k. 0)) t
 
   abbrev AnswersIn : House → Type 0
-  AnswersIn t = All (λ q. Answers r.log r.house t q.0 q.1) r.asked
+  AnswersIn t = AllByRecursion (λ q. Answers r.log r.house t q.0 q.1) r.asked
 
   holds_from_one_state : LeadsTo s → ((t : House) → LeadsTo t → t ≡ s) → AnswersIn s → Holds r
   holds_from_one_state leads only all = ((s, leads), λ t l. subst AnswersIn (sym (only t l)) all)

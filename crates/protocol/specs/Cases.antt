@@ -11,7 +11,7 @@
 -- The log's places count from 0, and key k belongs to house k mod 16: keys 0 and 16 to house 0, key 1 to house 1.
 -- Assumes nothing.
 use Rattle.std.specs.Prelude.{◌≡◌, ℕ, Bool, true, false, List, [], ◌∷◌}
-use Rattle.std.specs.List.{AllByRecursion as All}
+use Rattle.std.specs.List.{AllByRecursion}
 use Rattle.orders.specs.Transaction.{Transaction}
 use Rattle.orders.specs.Meaning.{padded}
 use Rattle.orders.specs.declared.outcome.Outcome.TheVariants.{Writes}
@@ -42,7 +42,7 @@ module _ (os : List Transaction) (h : ℕ) where
 abbrev pub Holds : Row → Type 0
 Holds r =
     ((s : House) × Leads r.log r.house r.before (fresh (λ k. 0)) s) ×
-    ((s : House) → Leads r.log r.house r.before (fresh (λ k. 0)) s → All (λ q. Answers r.log r.house s q.0 q.1) r.asked)
+    ((s : House) → Leads r.log r.house r.before (fresh (λ k. 0)) s → AllByRecursion (λ q. Answers r.log r.house s q.0 q.1) r.asked)
 
 -- order 1 meets no key of order 0
 abbrev pub apart : List Transaction
@@ -68,4 +68,4 @@ abbrev pub table : List Row
 table = goes_ahead ∷ waits_for_look ∷ free_after_look ∷ []
 
 abbrev pub TableHolds : Type 0
-TableHolds = All Holds table
+TableHolds = AllByRecursion Holds table

@@ -18,7 +18,7 @@
 --   Always        of every net that a run over a sound plan comes to; BaseSound: the base is such a plan
 -- Assumes nothing.
 use Rattle.std.specs.Prelude.{◌≡◌, ℕ, ◌<◌, ◌≤◌, Bool, true, false, List, [], ◌++◌, map, length, take, Some, None}
-use Rattle.std.specs.List.{ContainsAt as Has, AllByRecursion as All}
+use Rattle.std.specs.List.{ContainsAt as Has, AllByRecursion}
 use Rattle.orders.specs.Transaction.{Transaction, is_in, serial}
 use Rattle.protocol.specs.Log.{houses, at, writes_in, own_reads, conflict}
 use Rattle.protocol.specs.House.{House, done, knows, Plan, Sound, base}
@@ -70,12 +70,12 @@ module _ (os : List Transaction) (p : Plan) (first : ℕ → ℕ) where
       (Has n.soup (told h i vs) → Has m.soup (told h i ws) → vs ≡ ws) × ((n.house h).noted i ≡ Some vs → (m.house h).noted i ≡ Some ws → vs ≡ ws)
 
   abbrev pub NeverStuck : Net → Type 0
-  NeverStuck n = (ds : List (ℕ × Deed)) × (m : Net) × All (λ d. calm d.1 ≡ true) ds × Run os p ds (quiet n) m × AllDone m
+  NeverStuck n = (ds : List (ℕ × Deed)) × (m : Net) × AllByRecursion (λ d. calm d.1 ≡ true) ds × Run os p ds (quiet n) m × AllDone m
 
   abbrev pub Nearby : Net → Type 0
   Nearby n =
       (h i : ℕ) → h < houses → i < length os → done_at n h i ≡ false →
-      (ds : List (ℕ × Deed)) × (m l : Net) × (g : ℕ) × (d : Deed) × All (λ e. plain e.1 ≡ true) ds × Run os p ds (quiet n) m × Step os p g d m l × Works d
+      (ds : List (ℕ × Deed)) × (m l : Net) × (g : ℕ) × (d : Deed) × AllByRecursion (λ e. plain e.1 ≡ true) ds × Run os p ds (quiet n) m × Step os p g d m l × Works d
 
   pub data Waits (n : Net) : Task → Task → Type 0 where
     -- for an earlier order that conflicts and is not done

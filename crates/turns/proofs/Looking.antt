@@ -1,6 +1,6 @@
 -- What looking through a queue from its front finds is what the log says.
 use Rattle.std.proofs.Common.{◌≡◌, ℕ, zero, suc, ◌<◌, ◌≤◌, Bool, true, false, cond, not, ◌&&◌, ◌||◌, eqb, ltb, List, [], ◌∷◌, ◌++◌, sym, refl, ap, ◌∙◌, inl, inr, arith}
-use Rattle.std.specs.List.{AllByRecursion as All}
+use Rattle.std.specs.List.{AllByRecursion}
 use Rattle.std.proofs.ByRecursion.{All-append, All-weaker}
 use Rattle.std.proofs.lemmas.List.{append-nil}
 use Rattle.std.proofs.lemmas.Bool.{cond-true, cond-false, cond_both, cases_lt, le-ltb, lt-ltb, ne_eqb}
@@ -58,7 +58,7 @@ module _ (marks : ℕ → List Mark) (done : ℕ → Bool) (i : ℕ) (ms : List 
 
 -- the places of entries
 abbrev pub Before : ℕ → List Entry → Type 0
-Before n es = All (λ (e : Entry). e.place < n) es
+Before n es = AllByRecursion (λ (e : Entry). e.place < n) es
 
 before_more : (n m : ℕ) (es : List Entry) → n ≤ m → Before n es → Before m es
 before_more n m es l a = All-weaker (λ (e : Entry). e.place < n) (λ (e : Entry). e.place < m) (λ e b. omega arith) es a

@@ -1,6 +1,6 @@
 -- Who may go on once an order is done, as it is found from queue to queue.
 use Rattle.std.proofs.Common.{◌≡◌, ℕ, zero, suc, ◌+◌, ◌<◌, ◌≤◌, Bool, true, false, cond, not, ◌&&◌, ◌||◌, eqb, List, [], ◌∷◌, length, get_or, drop, IfOk, IfErr, Ok, Err, Result, sym, refl, ap, ◌∙◌, inl, inr, arith}
-use Rattle.std.specs.List.{AllByRecursion as All}
+use Rattle.std.specs.List.{AllByRecursion}
 use Rattle.std.proofs.ByRecursion.{All-append, All-weaker, All-get_or}
 use Rattle.std.proofs.lemmas.List.{at_drop_more, at_drop_all}
 use Rattle.std.proofs.lemmas.Bool.{cond-true, cond-false, cond_both, cases_Bool, lt-ltb, eqb-true, eq-eqb, ne_eqb, and_right}
@@ -81,7 +81,7 @@ module _ (t : Turns) (w p : ℕ) (within : w < count_of t) (undone : done_of t w
 -- the entries of a queue are of orders that are not done
 module _ (marks : ℕ → List Mark) (done : ℕ → Bool) where
   abbrev pub Undone : ℕ → List Entry → Type 0
-  Undone n es = All (λ (e : Entry). (e.place < n) × (done e.place ≡ false)) es
+  Undone n es = AllByRecursion (λ (e : Entry). (e.place < n) × (done e.place ≡ false)) es
 
   entered_undone : (q i n : ℕ) (ms : List Mark) → i < n → done i ≡ false → Undone n (entered q i ms)
   entered_undone q i n [] l d = tt

@@ -5,7 +5,7 @@
 --   Cramped qs ms    one of them has not room for an entry for each of ms
 -- Assumes nothing.
 use Rattle.std.specs.Prelude.{◌≡◌, ℕ, ◌-◌, ◌<◌, ◌≤◌, List, [], map, length, vec_len, vec_capacity, slice_index}
-use Rattle.std.specs.List.{ContainsAt as Has, AllByRecursion as All}
+use Rattle.std.specs.List.{ContainsAt as Has, AllByRecursion}
 use Rattle.turns.specs.Entries.{entries_in}
 use Rattle.turns.specs.Marks.{slot}
 use Rattle.turns.specs.declared.entry.Mark.{Mark}
@@ -18,11 +18,11 @@ abbrev pub room_at : List Queue → ℕ → ℕ
 room_at qs s = slice_index (map room_in qs) s
 
 abbrev pub Roomy : List Queue → ℕ → List Mark → Type 0
-Roomy qs n ms = All (λ (m : Mark). n ≤ room_at qs (slot m.key)) ms
+Roomy qs n ms = AllByRecursion (λ (m : Mark). n ≤ room_at qs (slot m.key)) ms
 
 abbrev pub Cramped : List Queue → List Mark → Type 0
 Cramped qs ms = (m : Mark) × Has ms m × (room_at qs (slot m.key) < length ms)
 
 -- queues without an entry
 abbrev pub Empty : List Queue → Type 0
-Empty qs = All (λ (q : Queue). entries_in q ≡ []) qs
+Empty qs = AllByRecursion (λ (q : Queue). entries_in q ≡ []) qs

@@ -1,7 +1,7 @@
 // What the others tell.
 ghost use Rattle.std.specs.Prelude.{◌≡◌, [], length, MatchResult, slice_index_or, slice_set};
 ghost use Rattle.rows.specs.Lists.{rows_of};
-ghost use Rattle.ledger.specs.Own.{telling, told as toldBy};
+ghost use Rattle.ledger.specs.Own.{telling, told as told_by};
 ghost use Rattle.ledger.specs.State.{Heard, RefusesTold};
 
 use super::Ledger;
@@ -44,7 +44,7 @@ impl Ledger {
 
 // Whether a house has told before: its first key among some keys has a value.
 fn has_told(from: u8, keys: &[u16], slots: &[Option<u32>]) -> bool
-    ensures { result ≡ toldBy from keys.now slots.now }
+    ensures { result ≡ told_by from keys.now slots.now }
 {
     for (i, key) in keys.iter().enumerate() {
         if is_own(from, *key) {
