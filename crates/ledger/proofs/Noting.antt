@@ -238,16 +238,16 @@ module _ (s : Ledger) (i : ℕ) (may : may_look s i ≡ true) where
       (λ q. s.filled n (sym (cond-false (eqb n i) true (looked_at s n) q) ∙ sym (looked_at_is n) ∙ l))
 
   -- what was found in its values for the keys of the order
-  module _ (ks xs : List ℕ) (keys-are : ks ≡ (order_at s i).reads) (values_are : xs ≡ vec_items s.values) where
+  module _ (ks xs : List ℕ) (keys_are : ks ≡ (order_at s i).reads) (values_are : xs ≡ vec_items s.values) where
     own_value : (k : ℕ) → owns s.number k ≡ true → slot_in xs k ≡ value_in s k
     own_value k o = ap (λ l. slot_in l k) values_are ∙ sym (cond-true (owns s.number k) (slot_in (vec_items s.values) k) 0 o)
 
     pub row_is : (rs : List (List (Option ℕ))) → rs ≡ set (rows_of s.slots) i (noting s.number (λ k. slot_in xs k) ks (slots_at s i)) → rs ≡ set (rows_of s.slots) i row
     row_is rs e =
-        e ∙ ap (set (rows_of s.slots) i) (noting_agree s.number (λ k. slot_in xs k) (value_in s) ks (slots_at s i) own_value ∙ ap (λ l. noting s.number (value_in s) l (slots_at s i)) keys-are)
+        e ∙ ap (set (rows_of s.slots) i) (noting_agree s.number (λ k. slot_in xs k) (value_in s) ks (slots_at s i) own_value ∙ ap (λ l. noting s.number (value_in s) l (slots_at s i)) keys_are)
 
     pub note_is : (ns : List ℕ) → ns ≡ map (λ k. slot_in xs k) (filter (owns s.number) ks) → ns ≡ map (value_in s) (filter (owns s.number) (order_at s i).reads)
-    note_is ns e = e ∙ map_own_agree s.number (λ k. slot_in xs k) (value_in s) ks own_value ∙ ap (λ l. map (value_in s) (filter (owns s.number) l)) keys-are
+    note_is ns e = e ∙ map_own_agree s.number (λ k. slot_in xs k) (value_in s) ks own_value ∙ ap (λ l. map (value_in s) (filter (owns s.number) l)) keys_are
 
   -- t: the turns after it, in which the order is done unless it writes here
   module _ (t : Turns) (same_marks : t.marks ≡ s.turns.marks) (done_is : OnceLooked s i (vec_items t.done)) where

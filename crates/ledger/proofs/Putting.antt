@@ -37,9 +37,9 @@ module _ (h j v : ℕ) (items : List ℕ) (within : j / 16 < length items) where
   slot_kept k oj ok ne = get_or-set_other items (j / 16) (k / 16) v 0 (apart h j k oj ok ne)
 
 -- one key more, overwritten if it is the house's own
-module _ (h : ℕ) (ks vs items : List ℕ) (i j : ℕ) (inKeys : i < length ks) (inValues : i < length vs) (is : j ≡ get_or ks i 0) (rises : rising 0 ks ≡ true) (k : ℕ) (own : owns h k ≡ true) where
+module _ (h : ℕ) (ks vs items : List ℕ) (i j : ℕ) (in_keys : i < length ks) (in_values : i < length vs) (is : j ≡ get_or ks i 0) (rises : rising 0 ks ≡ true) (k : ℕ) (own : owns h k ≡ true) where
   behind : rising (suc j) (drop (i + 1) ks) ≡ true
-  behind = ap (λ x. rising (suc x) (drop (i + 1) ks)) is ∙ ap (λ n. rising (suc (get_or ks i 0)) (drop n ks)) (add-one i) ∙ rising_behind 0 i ks inKeys rises
+  behind = ap (λ x. rising (suc x) (drop (i + 1) ks)) is ∙ ap (λ n. rising (suc (get_or ks i 0)) (drop n ks)) (add-one i) ∙ rising_behind 0 i ks in_keys rises
 
   pub put_more : owns h j ≡ true → j / 16 < length items →
       lookup (drop (i + 1) ks) (drop (i + 1) vs) k (slot_in (set items (j / 16) (get_or vs i 0)) k) ≡ lookup (drop i ks) (drop i vs) k (slot_in items k)
@@ -49,14 +49,14 @@ module _ (h : ℕ) (ks vs items : List ℕ) (i j : ℕ) (inKeys : i < length ks)
             absent (suc j) k (drop (i + 1) ks) (drop (i + 1) vs) (slot_in (set items (j / 16) (get_or vs i 0)) k) (omega arith) behind
             ∙ ap (slot_in (set items (j / 16) (get_or vs i 0))) e
             ∙ slot_written h j (get_or vs i 0) items within
-            ∙ sym (lookup_here ks vs k (slot_in items k) i inKeys inValues (sym is ∙ sym e))
+            ∙ sym (lookup_here ks vs k (slot_in items k) i in_keys in_values (sym is ∙ sym e))
         | inr ne ↦
             ap (lookup (drop (i + 1) ks) (drop (i + 1) vs) k) (slot_kept h j (get_or vs i 0) items within k oj own ne)
-            ∙ sym (lookup_on ks vs k (slot_in items k) i inKeys inValues (λ e. ne (sym (is ∙ e))))
+            ∙ sym (lookup_on ks vs k (slot_in items k) i in_keys in_values (λ e. ne (sym (is ∙ e))))
       ]
 
   pub pass_more : owns h j ≡ false → lookup (drop (i + 1) ks) (drop (i + 1) vs) k (slot_in items k) ≡ lookup (drop i ks) (drop i vs) k (slot_in items k)
-  pass_more nj = sym (lookup_on ks vs k (slot_in items k) i inKeys inValues (λ e. both_ways (owns h j) nj (ap (owns h) (is ∙ e) ∙ own)))
+  pass_more nj = sym (lookup_on ks vs k (slot_in items k) i in_keys in_values (λ e. both_ways (owns h j) nj (ap (owns h) (is ∙ e) ∙ own)))
 
 -- what was read over what was read is what was read
 lookup_twice : (ks vs : List ℕ) (k d : ℕ) → lookup ks vs k (lookup ks vs k d) ≡ lookup ks vs k d
@@ -72,10 +72,10 @@ lookup_twice (x ∷ xs) (v ∷ vs) k d = with_test (eqb k x) (lookup_twice xs vs
 abbrev pub back : (ks reads vs : List ℕ) → ℕ → ℕ → ℕ
 back ks reads vs k v = cond (is_in k ks) (lookup reads vs k v) v
 
-module _ (h : ℕ) (ks reads vs items : List ℕ) (i j : ℕ) (inKeys : i < length ks) (is : j ≡ get_or ks i 0) (k : ℕ) (own : owns h k ≡ true) where
+module _ (h : ℕ) (ks reads vs items : List ℕ) (i j : ℕ) (in_keys : i < length ks) (is : j ≡ get_or ks i 0) (k : ℕ) (own : owns h k ≡ true) where
   back_at : (v : ℕ) → back (drop i ks) reads vs k v ≡ cond (eqb k j || is_in k (drop (i + 1) ks)) (lookup reads vs k v) v
   back_at v =
-      at_drop_more (λ xs. back xs reads vs k v) ks i 0 inKeys
+      at_drop_more (λ xs. back xs reads vs k v) ks i 0 in_keys
       ∙ ap (λ x. cond (eqb k x || is_in k (drop (i + 1) ks)) (lookup reads vs k v) v) (sym is)
 
   back_on : (v : ℕ) → (k ≡ j → ⊥) → back (drop i ks) reads vs k v ≡ back (drop (i + 1) ks) reads vs k v

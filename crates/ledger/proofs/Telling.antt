@@ -10,7 +10,7 @@ use Rattle.protocol.specs.House.{base}
 use Rattle.protocol.specs.Machine.{Message, told, hear, hears, Act, hears_told}
 use Rattle.rows.specs.Lists.{rows_of}
 use Rattle.turns.specs.State.{marks_of, done_of, count_of}
-use Rattle.ledger.specs.Own.{owns, own_known, own_count, marked, slot_count, telling, told as toldBy, note_of, slot_of}
+use Rattle.ledger.specs.Own.{owns, own_known, own_count, marked, slot_count, telling, told as told_by, note_of, slot_of}
 use Rattle.ledger.specs.State.{log_of, order_at, slots_at, looked_at, value_in, state_of, Wanted, Needless, Heard}
 use Rattle.ledger.specs.declared.ledger.Ledger.{Ledger}
 use Rattle.ledger.proofs.Noting.{set_again, at_set, slots_full, house_with}
@@ -18,34 +18,34 @@ use Rattle.ledger.proofs.Ties.{at_log, own_reads_of}
 
 -- whether a house has told before, key by key
 module _ (h : ℕ) where
-  told_no_slots : (ks : List ℕ) → toldBy h ks [] ≡ false
+  told_no_slots : (ks : List ℕ) → told_by h ks [] ≡ false
   told_no_slots [] = refl
   told_no_slots (k ∷ ks) = refl
 
-  told_other_suc : (ks : List ℕ) (vs : List (Option ℕ)) (i : ℕ) → i < length ks → owns h (get_or ks i 0) ≡ false → toldBy h (drop (suc i) ks) (drop (suc i) vs) ≡ toldBy h (drop i ks) (drop i vs)
+  told_other_suc : (ks : List ℕ) (vs : List (Option ℕ)) (i : ℕ) → i < length ks → owns h (get_or ks i 0) ≡ false → told_by h (drop (suc i) ks) (drop (suc i) vs) ≡ told_by h (drop i ks) (drop i vs)
   told_other_suc [] vs i l o = absurd (omega arith)
   told_other_suc (k ∷ ks) [] zero l o = told_no_slots ks
-  told_other_suc (k ∷ ks) (v ∷ vs) zero l o = sym (cond-false (owns h k) (is_some v) (toldBy h ks vs) o)
+  told_other_suc (k ∷ ks) (v ∷ vs) zero l o = sym (cond-false (owns h k) (is_some v) (told_by h ks vs) o)
   told_other_suc (k ∷ ks) [] (suc i) l o = told_no_slots (drop (suc i) ks) ∙ sym (told_no_slots (drop i ks))
   told_other_suc (k ∷ ks) (v ∷ vs) (suc i) l o = told_other_suc ks vs i (omega arith) o
 
-  pub told_other : (ks : List ℕ) (vs : List (Option ℕ)) (i : ℕ) → i < length ks → owns h (get_or ks i 0) ≡ false → toldBy h (drop (i + 1) ks) (drop (i + 1) vs) ≡ toldBy h (drop i ks) (drop i vs)
-  told_other ks vs i l o = ap (λ n. toldBy h (drop n ks) (drop n vs)) (add-one i) ∙ told_other_suc ks vs i l o
+  pub told_other : (ks : List ℕ) (vs : List (Option ℕ)) (i : ℕ) → i < length ks → owns h (get_or ks i 0) ≡ false → told_by h (drop (i + 1) ks) (drop (i + 1) vs) ≡ told_by h (drop i ks) (drop i vs)
+  told_other ks vs i l o = ap (λ n. told_by h (drop n ks) (drop n vs)) (add-one i) ∙ told_other_suc ks vs i l o
 
-  pub told_here : (ks : List ℕ) (vs : List (Option ℕ)) (i : ℕ) (d : Option ℕ) → i < length ks → owns h (get_or ks i 0) ≡ true → i < length vs → toldBy h (drop i ks) (drop i vs) ≡ is_some (get_or vs i d)
+  pub told_here : (ks : List ℕ) (vs : List (Option ℕ)) (i : ℕ) (d : Option ℕ) → i < length ks → owns h (get_or ks i 0) ≡ true → i < length vs → told_by h (drop i ks) (drop i vs) ≡ is_some (get_or vs i d)
   told_here [] vs i d l o m = absurd (omega arith)
   told_here (k ∷ ks) [] i d l o m = absurd (omega arith)
-  told_here (k ∷ ks) (v ∷ vs) zero d l o m = cond-true (owns h k) (is_some v) (toldBy h ks vs) o
+  told_here (k ∷ ks) (v ∷ vs) zero d l o m = cond-true (owns h k) (is_some v) (told_by h ks vs) o
   told_here (k ∷ ks) (v ∷ vs) (suc i) d l o m = told_here ks vs i d (omega arith) o (omega arith)
 
-  pub told_past_slots : (ks : List ℕ) (vs : List (Option ℕ)) (i : ℕ) → length vs ≤ i → toldBy h (drop i ks) (drop i vs) ≡ false
+  pub told_past_slots : (ks : List ℕ) (vs : List (Option ℕ)) (i : ℕ) → length vs ≤ i → told_by h (drop i ks) (drop i vs) ≡ false
   told_past_slots ks [] zero m = told_no_slots ks
   told_past_slots ks (v ∷ vs) zero m = absurd (omega arith)
   told_past_slots [] vs (suc i) m = refl
   told_past_slots (k ∷ ks) [] (suc i) m = told_no_slots (drop i ks)
   told_past_slots (k ∷ ks) (v ∷ vs) (suc i) m = told_past_slots ks vs i (omega arith)
 
-  pub told_past_keys : (ks : List ℕ) (vs : List (Option ℕ)) (i : ℕ) → length ks ≤ i → toldBy h (drop i ks) (drop i vs) ≡ false
+  pub told_past_keys : (ks : List ℕ) (vs : List (Option ℕ)) (i : ℕ) → length ks ≤ i → told_by h (drop i ks) (drop i vs) ≡ false
   told_past_keys [] vs zero m = refl
   told_past_keys (k ∷ ks) vs zero m = absurd (omega arith)
   told_past_keys [] vs (suc i) m = refl
@@ -252,12 +252,12 @@ module _ (g : ℕ) where
           ∙ ap (λ l. cond (is_in k l) (Some (lookup l (n ∷ ns) k 0)) (cond (eqb k x) v (slot_of ks vs k))) (sym (cond-true (owns g x) (x ∷ filter (owns g) ks) (filter (owns g) ks) y))
 
 -- what the tests of a call come to: nothing makes it needless
-pub needed_from : (s : Ledger) (g i : ℕ) (ns ks : List ℕ) (vs : List (Option ℕ)) → (g ≡ s.number → ⊥) → marked true (marks_of s.turns i) ≡ true → eqb (length ns) 0 ≡ false → toldBy g ks vs ≡ false →
+pub needed_from : (s : Ledger) (g i : ℕ) (ns ks : List ℕ) (vs : List (Option ℕ)) → (g ≡ s.number → ⊥) → marked true (marks_of s.turns i) ≡ true → eqb (length ns) 0 ≡ false → told_by g ks vs ≡ false →
     ks ≡ (order_at s i).reads → vs ≡ slots_at s i → Needless s g i (length ns) → ⊥
 needed_from s g i ns ks vs o w n t k v (inl e) = o e
 needed_from s g i ns ks vs o w n t k v (inr (inl e)) = both_ways (marked true (marks_of s.turns i)) e w
 needed_from s g i ns ks vs o w n t k v (inr (inr (inl e))) = eqb-false (length ns) 0 n e
-needed_from s g i ns ks vs o w n t k v (inr (inr (inr e))) = both_ways (toldBy g (order_at s i).reads (slots_at s i)) ((λ x. toldBy g (sym k x) (sym v x)) ∙ t) e
+needed_from s g i ns ks vs o w n t k v (inr (inr (inr e))) = both_ways (told_by g (order_at s i).reads (slots_at s i)) ((λ x. told_by g (sym k x) (sym v x)) ∙ t) e
 
 -- a ledger s that hears what house g tells for the order at i, and has need of it
 module _ (s : Ledger) (g i : ℕ) (ns : List ℕ) (wanted : Wanted s g i (length ns)) (needed : Needless s g i (length ns) → ⊥) where

@@ -1,20 +1,20 @@
 -- The keys of an order that are a house's own, and the values that it has of those that the order reads.
---   owns h k          key k belongs to house h
+--   owns h k           key k belongs to house h
 --   own_marks w h ks   a mark for each of the keys that belong to the house
 --   marks_for h t      the marks of an order: what it writes there, then what it reads
 --   own_count h ks     how many of the keys belong to the house
---   marked w ms       whether there is a mark that writes (w) or reads
+--   marked w ms        whether there is a mark that writes (w) or reads
 --   alike_marks        two lists have the same marks
 --   slot_count h t     how many slots the house keeps for an order: one for each key that it reads, if it touches the house
---   slot_in vs k      what a house's values vs have for a key of it
+--   slot_in vs k       what a house's values vs have for a key of it
 --   note_of h ks vs    of the slots vs for the keys ks, the values of those that belong to the house
 --   slot_of ks vs k    the slot of a key, if it has a value
---   known vs          every slot has a value
+--   known vs           every slot has a value
 --   own_known h ks vs  every slot of a key that belongs to the house has a value
---   given vs          the values, 0 for a slot without
---   noting h f ks vs  the slots, once the house has noted its values f of its own keys
---   telling h ks ns vs    the slots, once house h has told the values ns
---   told h ks vs      the house has told before: its first key has a value
+--   given vs           the values, 0 for a slot without
+--   noting h f ks vs   the slots, once the house has noted its values f of its own keys
+--   telling h ks ns vs the slots, once house h has told the values ns
+--   told h ks vs       the house has told before: its first key has a value
 -- Assumes nothing.
 use Rattle.std.specs.Prelude.{ℕ, zero, suc, ◌/◌, ◌%◌, Bool, true, false, cond, ◌&&◌, ◌||◌, List, [], ◌∷◌, ◌++◌, map, length, is_some, Some, None, Option, ◌==◌, slice_index}
 use Rattle.std.specs.Option.{unwrap_or}

@@ -1,12 +1,12 @@
 -- A ledger as the machine sees a house, and what its calls do there.
---   log_of               the log that the house has
+--   log_of                the log that the house has
 --   order_at, slots_at, looked_at    the order at a place, what the house has of the values that it reads, whether it has noted its part
---   value_in             the value of a key; 0 for one that is not its own
---   state_of             the house's state in the machine
+--   value_in              the value of a key; 0 for one that is not its own
+--   state_of              the house's state in the machine
 --   may_look, may_write   whether it may look, or write, for the order at a place
---   CanLook, CanWrite   the machine has such a step
---   Steps d s s'        a deed of the machine takes the one state to the other, whatever follows in the log
---   Same                nothing differs
+--   CanLook, CanWrite     the machine has such a step
+--   Steps d s s'          a deed of the machine takes the one state to the other, whatever follows in the log
+--   Same                  nothing differs
 --   Fresh, Grown, Looked, Wrote, Heard    what holds after each call
 --   RefusesHouse, RefusesOrder, RefusesTold    what holds where an order, or what a house is told, is refused
 -- Assumes nothing.
@@ -24,7 +24,7 @@ use Rattle.rows.specs.Lists.{rows_of, Wanting}
 use Rattle.turns.specs.Marks.{ready}
 use Rattle.turns.specs.State as turns
 use Rattle.turns.specs.State.{marks_of, done_of, count_of}
-use Rattle.ledger.specs.Own.{owns, own_count, marks_for, marked, slot_count, note_of, slot_of, known, given, noting, telling, told as toldBy}
+use Rattle.ledger.specs.Own.{owns, own_count, marks_for, marked, slot_count, note_of, slot_of, known, given, noting, telling, told as told_by}
 use Rattle.ledger.specs.declared.ledger.Ledger.{Ledger}
 use Rattle.ledger.specs.declared.refusal.Refusal.{Refusal}
 use Rattle.ledger.specs.declared.refusal.Refusal.TheVariants.{Mismatch, Beyond, Known, NotYet, Full, Memory}
@@ -133,7 +133,7 @@ pub record Wanted (s : Ledger) (g i n : ℕ) : Type 0 where
   pub counted : n ≡ own_count g (order_at s i).reads
 
 abbrev pub Needless : Ledger → (g i n : ℕ) → Type 0
-Needless s g i n = (g ≡ s.number) ⊎ ((marked true (marks_of s.turns i) ≡ false) ⊎ ((n ≡ 0) ⊎ (toldBy g (order_at s i).reads (slots_at s i) ≡ true)))
+Needless s g i n = (g ≡ s.number) ⊎ ((marked true (marks_of s.turns i) ≡ false) ⊎ ((n ≡ 0) ⊎ (told_by g (order_at s i).reads (slots_at s i) ≡ true)))
 
 pub record Heard (s s' : Ledger) (g i : ℕ) (vs : List ℕ) : Type 0 where
   pub wanted : Wanted s g i (length vs)

@@ -25,15 +25,15 @@ rising_behind low zero (x ∷ xs) h r = (and_parts (leb low x) (rising (suc x) x
 rising_behind low (suc i) (x ∷ xs) h r = rising_behind (suc x) i xs (omega arith) (and_parts (leb low x) (rising (suc x) xs) r).1
 
 -- one key more, overwritten
-module _ (ks vs items : List ℕ) (i j : ℕ) (inKeys : i < length ks) (inValues : i < length vs) (is : j ≡ get_or ks i 0) (inItems : j < length items) (rises : rising 0 ks ≡ true) (k : ℕ) where
+module _ (ks vs items : List ℕ) (i j : ℕ) (in_keys : i < length ks) (in_values : i < length vs) (is : j ≡ get_or ks i 0) (in_items : j < length items) (rises : rising 0 ks ≡ true) (k : ℕ) where
   first_write : lookup (drop i ks) (drop i vs) k (get_or items k 0) ≡ cond (eqb k j) (get_or vs i 0) (lookup (drop (i + 1) ks) (drop (i + 1) vs) k (get_or items k 0))
   first_write =
-      ap (λ xs. lookup xs (drop i vs) k (get_or items k 0)) (drop_more ks i 0 inKeys)
-      ∙ ap (λ ys. lookup (get_or ks i 0 ∷ drop (i + 1) ks) ys k (get_or items k 0)) (drop_more vs i 0 inValues)
+      ap (λ xs. lookup xs (drop i vs) k (get_or items k 0)) (drop_more ks i 0 in_keys)
+      ∙ ap (λ ys. lookup (get_or ks i 0 ∷ drop (i + 1) ks) ys k (get_or items k 0)) (drop_more vs i 0 in_values)
       ∙ ap (λ x. cond (eqb k x) (get_or vs i 0) (lookup (drop (i + 1) ks) (drop (i + 1) vs) k (get_or items k 0))) (sym is)
 
   behind : rising (suc j) (drop (i + 1) ks) ≡ true
-  behind = ap (λ x. rising (suc x) (drop (i + 1) ks)) is ∙ ap (λ n. rising (suc (get_or ks i 0)) (drop n ks)) (add-one i) ∙ rising_behind 0 i ks inKeys rises
+  behind = ap (λ x. rising (suc x) (drop (i + 1) ks)) is ∙ ap (λ n. rising (suc (get_or ks i 0)) (drop n ks)) (add-one i) ∙ rising_behind 0 i ks in_keys rises
 
   pub write_more : lookup (drop (i + 1) ks) (drop (i + 1) vs) k (get_or (set items j (get_or vs i 0)) k 0) ≡ lookup (drop i ks) (drop i vs) k (get_or items k 0)
   write_more = ⊎_elim same other (cases_eq k j) ∙ sym first_write
@@ -42,7 +42,7 @@ module _ (ks vs items : List ℕ) (i j : ℕ) (inKeys : i < length ks) (inValues
       same e =
           absent (suc j) k (drop (i + 1) ks) (drop (i + 1) vs) (get_or (set items j (get_or vs i 0)) k 0) (omega arith) behind
           ∙ ap (λ n. get_or (set items j (get_or vs i 0)) n 0) e
-          ∙ get_or-set_same items j (get_or vs i 0) 0 inItems
+          ∙ get_or-set_same items j (get_or vs i 0) 0 in_items
           ∙ sym (ap (λ b. cond b (get_or vs i 0) (lookup (drop (i + 1) ks) (drop (i + 1) vs) k (get_or items k 0))) (eq-eqb k j e))
 
       other : (k ≡ j → ⊥) → lookup (drop (i + 1) ks) (drop (i + 1) vs) k (get_or (set items j (get_or vs i 0)) k 0) ≡ cond (eqb k j) (get_or vs i 0) (lookup (drop (i + 1) ks) (drop (i + 1) vs) k (get_or items k 0))

@@ -1,5 +1,5 @@
 -- The numbers by which the log turns an order away, and when.
---   number_of                          of an error, if the format gives it one
+--   number_of                         of an error, if the format gives it one
 --   Refuses e length orders wanting   what holds where the log answers e: for an order of so many bytes, with so many orders in the log;
 --                                     wanting: more memory was needed than was at hand. The lowest number wins
 -- Assumes nothing.

@@ -1,9 +1,9 @@
 -- The bytes of the log: orders, each behind its length in two bytes, the high one first.
---   framed o      an order behind its length
---   frames bs     the orders that stand whole in the bytes, from the front
---   extent os     how many bytes so many orders take
+--   framed o       an order behind its length
+--   frames bs      the orders that stand whole in the bytes, from the front
+--   extent os      how many bytes so many orders take
 --   tail_of bs     what lies behind the last whole order: the part that a stop cut
---   Whole bs      no such tail
+--   Whole bs       no such tail
 -- Assumes nothing.
 use Rattle.std.specs.Prelude.{◌≡◌, ℕ, zero, suc, ◌+◌, ◌*◌, cond, List, [], ◌∷◌, ◌++◌, length, take, drop, nat_le}
 use Rattle.std.specs.List.{flat_map}

@@ -1,18 +1,18 @@
 -- What a log of bytes says, and what doing it serially leaves.
---   limit             places are below it
+--   limit              places are below it
 --   entries_from p bs  the orders that stand whole in the bytes, the first at place p, up to the limit
---   entries bs        the orders of the log: those from place 0 on
+--   entries bs         the orders of the log: those from place 0 on
 --   log_of bs          the same as transactions; an order that is malformed does nothing
 --   values_in          the values that a store holds, by key
---   malformed p os    the places of the malformed ones among orders that stand from place p on
---   formed os         how many are well-formed
---   State             what some orders came to: the values by key, how many orders were done, the places of the malformed
+--   malformed p os     the places of the malformed ones among orders that stand from place p on
+--   formed os          how many are well-formed
+--   State              what some orders came to: the values by key, how many orders were done, the places of the malformed
 --   state_of           the state that the orders so far have left
---   start             the state before the first order
+--   start              the state before the first order
 --   next_place s       the place of the next order
---   doing os s        what a state comes to once the orders os are done too
---   Executes bs e     an execution of the log, with the bytes behind its last order kept
---   Wanting e n       more memory is needed to take in n bytes than is at hand
+--   doing os s         what a state comes to once the orders os are done too
+--   Executes bs e      an execution of the log, with the bytes behind its last order kept
+--   Wanting e n        more memory is needed to take in n bytes than is at hand
 -- Assumes nothing.
 use Rattle.std.specs.Prelude.{◌≡◌, ℕ, suc, ◌+◌, ◌-◌, ◌/◌, ◌<◌, cond, ◌⊎◌, List, [], ◌∷◌, ◌++◌, map, length, take, drop, is_some, vec_items, vec_len, vec_capacity, slice_index}
 use Rattle.orders.specs.Codec.{decoded}

@@ -43,16 +43,16 @@ Front f good bs p = (f p.0 ++ p.1 ≡ bs) × good p.0 × Bytes p.1
 
 -- Where one reads each good thing back from its bytes, and reads nothing else, so do many and list_in.
 module _ {X : Type 0} (one : List ℕ → Read X) (f : X → List ℕ) (good : X → Type 0) where
-  module _ (one-reads : (x : X) (rest : List ℕ) → good x → one (f x ++ rest) ≡ Some (x, rest)) where
+  module _ (one_reads : (x : X) (rest : List ℕ) → good x → one (f x ++ rest) ≡ Some (x, rest)) where
     many_reads : (xs : List X) (rest : List ℕ) → AllByRecursion good xs → many one (length xs) (flat_map f xs ++ rest) ≡ Some (xs, rest)
     unfolding many
     many_reads [] rest h = refl
-    many_reads (x ∷ xs) rest h = rw (append_assoc, one-reads x _ h.0, many_reads xs rest h.1)
+    many_reads (x ∷ xs) rest h = rw (append_assoc, one_reads x _ h.0, many_reads xs rest h.1)
 
     list_reads : (most : ℕ) (xs : List X) (rest : List ℕ) → leb (length xs) most ≡ true → AllByRecursion good xs → list_in most one (counted f xs ++ rest) ≡ Some (xs, rest)
     list_reads most xs rest e h = cond-true _ _ _ e ∙ many_reads xs rest h
 
-  module _ (one-finds : (bs : List ℕ) → Bytes bs → Finds (Front f good bs) (one bs)) where
+  module _ (one_finds : (bs : List ℕ) → Bytes bs → Finds (Front f good bs) (one bs)) where
     many_finds : (n : ℕ) (bs : List ℕ) → Bytes bs → Finds (Front (flat_map f) (λ xs. (length xs ≡ n) × AllByRecursion good xs) bs) (many one n bs)
     unfolding many
     many_finds zero bs b = (refl, (refl, tt), b)
@@ -61,7 +61,7 @@ module _ {X : Type 0} (one : List ℕ → Read X) (f : X → List ℕ) (good : X
         finds_prepend _ _ (p.0 ∷ []) (many one n p.1)
         (λ q k. (cc (append_assoc (f p.0) (flat_map f q.0) q.1), (ap suc k.1.0, (h.1, k.1.1)), k.2))
         (many_finds n p.1 h.2))
-        (one-finds bs b)
+        (one_finds bs b)
 
     list_finds : (most : ℕ) (bs : List ℕ) → Bytes bs → Finds (Front (counted f) (λ xs. (leb (length xs) most ≡ true) × AllByRecursion good xs) bs) (list_in most one bs)
     list_finds most [] b = tt

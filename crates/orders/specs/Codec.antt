@@ -1,9 +1,9 @@
 -- The bytes of an order, the high byte of a number first.
---   two, four            the bytes of a key and of a 32-bit number
+--   two, four             the bytes of a key and of a 32-bit number
 --   instruction_bytes     of an instruction: its kind, then its numbers
---   encoded              of an order: its read set, its write set and its code, each behind its count
---   many one n           n things read one after the other, each by one
---   decoded              the order that some bytes encode, if there is one
+--   encoded               of an order: its read set, its write set and its code, each behind its count
+--   many one n            n things read one after the other, each by one
+--   decoded               the order that some bytes encode, if there is one
 -- That decoded undoes encoded, and finds an order only where there is one, is proved (Laws in specs/).
 -- Assumes nothing.
 use Rattle.std.specs.Prelude.{ℕ, zero, suc, ◌+◌, ◌*◌, ◌/◌, ◌%◌, Bool, cond, List, [], ◌∷◌, ◌++◌, length, Some, None, Option, ◌==◌, nat_le}

@@ -1,8 +1,8 @@
 -- What an order says, as plain lists.
---   Contents    a read set, a write set and the instructions
+--   Contents     a read set, a write set and the instructions
 --   contents_of  of an order of the code
---   nothing     of an order that does nothing
---   valid       whether an order with these contents exists
+--   nothing      of an order that does nothing
+--   valid        whether an order with these contents exists
 -- Assumes nothing.
 use Rattle.std.specs.Prelude.{ℕ, Bool, ◌&&◌, List, [], length, take, nat_le}
 use Rattle.orders.specs.Valid.{rising, all_fit}

@@ -1,7 +1,7 @@
 -- What the instructions of an order do, and so which transaction an order is.
 --   padded n xs    xs cut or filled up with zeros to n elements
---   run_from        what the instructions come to, from the registers and from what will be written
---   outcome_of      what an order comes to, from the values that it has read
+--   run_from       what the instructions come to, from the registers and from what will be written
+--   outcome_of     what an order comes to, from the values that it has read
 --   meaning        the order as a transaction
 --   transaction    the one that some bytes encode; bytes that encode none do nothing
 -- Assumes nothing.

@@ -5,7 +5,7 @@
 --   after          the values of all keys after a transaction
 --   serial         the same after a log, one transaction after the other
 --   idle           the transaction that does nothing
---   is_in           whether a list has a key
+--   is_in          whether a list has a key
 -- Assumes nothing.
 use Rattle.std.specs.Prelude.{ℕ, Bool, false, cond, ◌||◌, List, [], ◌∷◌, map, ◌==◌}
 use Rattle.orders.specs.declared.outcome.Outcome.{Outcome}

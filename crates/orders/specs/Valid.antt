@@ -1,7 +1,7 @@
 -- When the parts of an order are valid.
 --   rising low ks    the keys rise, the first is at least low
 --   fits w i         the registers of i are below 32 and its slot is below w, the size of the write set
---   all_fit w is      each of the instructions fits
+--   all_fit w is     each of the instructions fits
 -- Assumes nothing.
 use Rattle.std.specs.Prelude.{ℕ, suc, Bool, true, ◌&&◌, List, [], ◌∷◌, nat_le, nat_lt}
 use Rattle.orders.specs.declared.instruction.Instruction.{Instruction}

@@ -179,7 +179,7 @@ module _ (os : List Transaction) (p : Plan) where
   Heard h g i m = (k : ℕ) → is_in k (own_reads os p.own g i) ≡ true → is_some ((m.house h).heard i k) ≡ true
 
   -- house g tells house h what it has noted for an order
-  module _ (h g i : ℕ) (in-h : h < houses) (in_g : g < houses) where
+  module _ (h g i : ℕ) (in_h : h < houses) (in_g : g < houses) where
     synced : (n : Net) → is_some ((n.house g).noted i) ≡ true → Leads plain n (λ m. (m.house g).synced i ≡ true)
     synced n noted =
         let s = n.house g in
@@ -210,7 +210,7 @@ module _ (os : List Transaction) (p : Plan) where
         (λ _. inr (refl, refl)) (λ _. inl (ap (λ x. s.heard x k) (sym (eqb-true j i e)))))
         (λ _. inl refl) in
         and_then plain n _ (Heard h g i)
-        (does plain n h in-h (hear (told g i vs)) s' []
+        (does plain n h in_h (hear (told g i vs)) s' []
         refl (record { place = refl; have = omega arith; noted = λ j. inl refl; wrote = λ j. inl refl; heard = stays })
         (hears_told s g i vs now' word has (λ j k. refl)))
         (λ m on e. here plain m _ (λ k e'.

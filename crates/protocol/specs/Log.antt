@@ -3,8 +3,8 @@
 --   stood os f i     the values of all keys before the order at i, serially, from the values f
 --   own              own i k: the house that has key k when the orders before place i are done; an order at i reads k at own i k, and writes
 --                    it at own (i + 1) k
---   reads_in          the order at i reads key k in house h; writes_in: it writes it there
---   own_reads         the keys that the order at i reads in house h, in their order: what the house notes and tells; own_writes likewise
+--   reads_in         the order at i reads key k in house h; writes_in: it writes it there
+--   own_reads        the keys that the order at i reads in house h, in their order: what the house notes and tells; own_writes likewise
 --   reads, writes    whether there is such a key; touches: whether there is one of either
 --   conflict         the orders at i and j meet at key k of house h: one writes it there, and the other writes or reads it there
 --   effect           what an order leaves in a key, from the values read, f, and, where it does not read that key, from what stands there, v

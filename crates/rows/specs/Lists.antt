@@ -1,5 +1,5 @@
 -- What rows hold, as a list of lists.
---   rows_of        the rows, the first one first
+--   rows_of       the rows, the first one first
 --   Room r n      there is memory at hand for one row more, of n items
 --   Wanting r n   there is not
 -- Assumes nothing.

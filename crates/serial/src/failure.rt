@@ -8,7 +8,7 @@ pub enum Failure {
     Arguments,
     // the log cannot be read: its path, and why
     File(String),
-    // what is printed cannot be written
+    // an argument cannot be read, or what is printed cannot be written
     Output(io::Error),
     Memory(AllocError),
 }

@@ -32,21 +32,21 @@ pub record Change (s s' : Ledger) (fresh : List Task) : Type 0 where
   pub new : (t : Task) → has t fresh ≡ (may_do s' t && not (may_do s t))
   pub rises : rising 0 (places fresh) ≡ true
 
-module _ (s s' : Ledger) (raw raw' fresh : List Task) (change : Change s s' fresh) (is : raw' ≡ raw ++ fresh) (listed-before : (t : Task) → (has t raw && live s t) ≡ may_do s t) where
+module _ (s s' : Ledger) (raw raw' fresh : List Task) (change : Change s s' fresh) (is : raw' ≡ raw ++ fresh) (listed_before : (t : Task) → (has t raw && live s t) ≡ may_do s t) where
   pub listed_after : (t : Task) → (has t raw' && live s' t) ≡ may_do s' t
   listed_after t =
       ap (λ ts. has t ts && live s' t) is
-      ∙ listed_still (may_do s) (may_do s') (live s) (live s') raw fresh (may_live s') change.older change.stays change.new listed-before t
+      ∙ listed_still (may_do s) (may_do s') (live s) (live s') raw fresh (may_live s') change.older change.stays change.new listed_before t
 
   pub once_after : distinct raw ≡ true → distinct raw' ≡ true
   once_after d =
-      ap distinct is ∙ once_still (may_do s) (may_do s') (live s) (live s') raw fresh (may_live s') change.older change.stays change.new listed-before d change.rises
+      ap distinct is ∙ once_still (may_do s) (may_do s') (live s) (live s') raw fresh (may_live s') change.older change.stays change.new listed_before d change.rises
 
   pub becomes : Becomes s (filter (live s) raw) s' (filter (live s') raw')
   becomes =
       record {
         fresh = fresh;
-        list_is = ap (filter (live s')) is ∙ list_becomes (may_do s) (may_do s') (live s) (live s') raw fresh (may_live s') change.older change.stays change.new listed-before;
+        list_is = ap (filter (live s')) is ∙ list_becomes (may_do s) (may_do s') (live s) (live s') raw fresh (may_live s') change.older change.stays change.new listed_before;
         fresh_are = change.new;
         rises = change.rises;
         stays = change.stays;

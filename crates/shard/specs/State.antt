@@ -1,5 +1,5 @@
 -- What the calls of a house do.
---   ready_of              the tasks that may be done now, in the order in which they came to be so
+--   ready_of             the tasks that may be done now, in the order in which they came to be so
 --   Becomes              the ready list after a step: those that still may be done, in their order, then those that newly may, by place rising
 --   Unmoved, Extends     nothing differs; tasks were listed behind the others
 --   Cramped              there is no memory at hand to list a task

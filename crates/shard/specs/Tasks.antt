@@ -1,10 +1,10 @@
 -- Tasks, and lists of them.
 --   place_of, same_task    the place of a task; whether two tasks are one
---   has, distinct        a list has a task; it has none twice
---   live s t             the task has not been done: what it would note is not noted, or what it would write not written
---   may_do s t            the ledger's house may do it now
+--   has, distinct          a list has a task; it has none twice
+--   live s t               the task has not been done: what it would note is not noted, or what it would write not written
+--   may_do s t             the ledger's house may do it now
 --   task_at, tasks_at      what may be done now for the order at a place, or at some places
---   places               the places of some tasks
+--   places                 the places of some tasks
 -- Assumes nothing.
 use Rattle.std.specs.Prelude.{ℕ, Bool, true, false, cond, not, ◌&&◌, ◌||◌, List, [], ◌∷◌, map, Some, None, Option, ◌==◌}
 use Rattle.turns.specs.State.{done_of}

@@ -1,6 +1,6 @@
 -- The number that a word is: digits alone, and below 2 to the 32.
---   joins n b      b is a digit, and there is room for it behind the number n
---   joined n b     the number with that digit behind it
+--   joins n b       b is a digit, and there is room for it behind the number n
+--   joined n b      the number with that digit behind it
 --   read_on n bs    the number with all of bs behind it; none where one does not join
 --   number_of bs    the number that the word bs is; none where it is none
 -- Assumes nothing.

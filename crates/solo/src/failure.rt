@@ -13,7 +13,7 @@ pub enum Failure {
     Refused(Refusal),
     // a file cannot be read: its path, and why
     File(String),
-    // what is printed cannot be written
+    // an argument cannot be read, or what is printed cannot be written
     Output(io::Error),
     Memory(AllocError),
 }

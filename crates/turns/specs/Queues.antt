@@ -1,12 +1,12 @@
 -- The queues of a house, and what looking through one finds.
---   entered q i ms    the entries of the order at place i, with the marks ms, in the queue of the key with number q
---   queue q n         the queue of the key with number q: the entries of the undone ones of the first n orders, in their order
---   alike             two queues have the same entries
---   without i es      a queue without the entries of place i, looked for no further than that place
+--   entered q i ms     the entries of the order at place i, with the marks ms, in the queue of the key with number q
+--   queue q n          the queue of the key with number q: the entries of the undone ones of the first n orders, in their order
+--   alike              two queues have the same entries
+--   without i es       a queue without the entries of place i, looked for no further than that place
 --   clear_in p b w es  no entry before place p, but those of place b, keeps one waiting that writes (w) or only reads
 --   next_in i w es     the places that may go on once the order at i, which writes (w) or only reads, is done: those of the first entry
---                     that is not its own and, where it writes, of the reads behind that, up to the first that writes
---   nexts n i j ms    the place j is among these, for the order at i, in the queue of one of its marks ms
+--                      that is not its own and, where it writes, of the reads behind that, up to the first that writes
+--   nexts n i j ms     the place j is among these, for the order at i, in the queue of one of its marks ms
 --   enter_all, leave_all    all queues, once an order with these marks has come behind the others; once it is done
 -- Assumes nothing.
 use Rattle.std.specs.Prelude.{ℕ, zero, suc, Bool, true, false, cond, not, ◌&&◌, ◌||◌, List, [], ◌∷◌, ◌++◌, ◌==◌, nat_lt, slice_index_or, slice_set}

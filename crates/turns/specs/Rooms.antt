@@ -1,6 +1,6 @@
 -- Memory at hand in the queues.
---   room_in q         for how many entries more a queue has room
---   room_at qs s      the same of the queue with number s
+--   room_in q        for how many entries more a queue has room
+--   room_at qs s     the same of the queue with number s
 --   Roomy qs n ms    the queues of the marks ms have room for n entries more
 --   Cramped qs ms    one of them has not room for an entry for each of ms
 -- Assumes nothing.

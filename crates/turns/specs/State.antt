@@ -1,11 +1,11 @@
 -- What the code of turns says of the orders.
 --   marks_of, done_of, count_of    what the order at a place touches, whether it is done; how many orders there are
---   queue_at t k                 the queue of a key
---   Same                        neither the orders nor what is done differs
---   Wants t ms                  more memory is needed for an order with the marks ms than is at hand
---   Refuses e t ms              what holds where an order with the marks ms is refused by e
---   Wakes t i js                js are, rising, the places whose orders wait for the one at i and for no other
---   Waking t i                  there is such a place
+--   queue_at t k                   the queue of a key
+--   Same                           neither the orders nor what is done differs
+--   Wants t ms                     more memory is needed for an order with the marks ms than is at hand
+--   Refuses e t ms                 what holds where an order with the marks ms is refused by e
+--   Wakes t i js                   js are, rising, the places whose orders wait for the one at i and for no other
+--   Waking t i                     there is such a place
 -- Assumes nothing.
 use Rattle.std.specs.Prelude.{◌≡◌, ℕ, ◌+◌, ◌<◌, ◌≤◌, Bool, true, false, ◌⊎◌, List, [], length, vec_items, vec_len, vec_capacity, slice_index_or}
 use Rattle.orders.specs.Transaction.{is_in}
