@@ -13,8 +13,8 @@ pub struct Answer {
 #[derive(Clone, Debug, PartialEq, Eq)]
 pub enum Expected {
     Answer(Answer),
-    /// Status 1 and one line on standard error, in whatever words.
-    Failure,
+    /// Status 1, and on standard error one line that begins with these words.
+    Failure(&'static str),
 }
 
 /// The first difference in words, or `None` if the program did just what is
@@ -22,8 +22,8 @@ pub enum Expected {
 pub fn difference(expected: &Expected, got: &Output) -> Option<String> {
     match expected {
         Expected::Answer(expected) => answer_difference(expected, got),
-        Expected::Failure => line_difference("standard output", b"", &got.stdout)
-            .or_else(|| one_line_difference("standard error", &got.stderr))
+        Expected::Failure(words) => line_difference("standard output", b"", &got.stdout)
+            .or_else(|| one_line_difference("standard error", words, &got.stderr))
             .or_else(|| status_difference(1, got.status.code())),
     }
 }
@@ -51,10 +51,14 @@ fn line_difference(what: &str, expected: &[u8], got: &[u8]) -> Option<String> {
     }
 }
 
-fn one_line_difference(what: &str, got: &[u8]) -> Option<String> {
+fn one_line_difference(what: &str, words: &str, got: &[u8]) -> Option<String> {
     match got.split_last() {
-        Some((b'\n', line)) if !line.is_empty() && !line.contains(&b'\n') => None,
-        _ => Some(format!("{what}: expected one line, got {}", shown(Some(got)))),
+        Some((b'\n', line))
+            if !line.is_empty() && !line.contains(&b'\n') && line.starts_with(words.as_bytes()) =>
+        {
+            None
+        }
+        _ => Some(format!("{what}: expected one line {words:?} .., got {}", shown(Some(got)))),
     }
 }
 
@@ -96,9 +100,17 @@ mod tests {
 
     #[test]
     fn one_line_is_one_whole_line() {
-        assert_eq!(one_line_difference("text", b"no such file\n"), None);
+        assert_eq!(one_line_difference("text", "", b"no such file\n"), None);
         for got in ["", "\n", "no end", "two\nlines\n", "two\nlines"] {
-            assert!(one_line_difference("text", got.as_bytes()).is_some(), "{got:?}");
+            assert!(one_line_difference("text", "", got.as_bytes()).is_some(), "{got:?}");
+        }
+    }
+
+    #[test]
+    fn one_line_begins_with_its_words() {
+        assert_eq!(one_line_difference("text", "file: ", b"file: no such file\n"), None);
+        for got in ["no such file\n", "file\n", "Error: file: no such file\n"] {
+            assert!(one_line_difference("text", "file: ", got.as_bytes()).is_some(), "{got:?}");
         }
     }
 

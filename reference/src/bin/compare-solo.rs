@@ -16,20 +16,24 @@ use reference::solo;
 /// The seeds 0, 1, 2 and so on, each a log, a house and a script.
 const SCHEDULES: u64 = 1000;
 
-/// Arguments that are wrong, or name a file that is not there.
-const WRONG: [&[&str]; 12] = [
-    &[],
-    &["3"],
-    &["3", "line"],
-    &["3", "line", "script", "script"],
-    &["16", "line", "script"],
-    &["256", "line", "script"],
-    &["-1", "line", "script"],
-    &["+3", "line", "script"],
-    &["x", "line", "script"],
-    &["", "line", "script"],
-    &["3", "nothing", "script"],
-    &["3", "line", "nothing"],
+const ARGUMENTS: &str = "solo: three arguments are wanted: see 'solo --help'";
+const HOUSE: &str = "solo: HOUSE is a number from 0 to 15";
+
+/// Arguments that are wrong, or name a file that is not there; and how the line
+/// begins that says so.
+const WRONG: [(&[&str], &str); 12] = [
+    (&[], ARGUMENTS),
+    (&["3"], ARGUMENTS),
+    (&["3", "line"], ARGUMENTS),
+    (&["3", "line", "script", "script"], ARGUMENTS),
+    (&["16", "line", "script"], HOUSE),
+    (&["256", "line", "script"], HOUSE),
+    (&["-1", "line", "script"], HOUSE),
+    (&["+3", "line", "script"], HOUSE),
+    (&["x", "line", "script"], HOUSE),
+    (&["", "line", "script"], HOUSE),
+    (&["3", "nothing", "script"], "solo: nothing: "),
+    (&["3", "line", "nothing"], "solo: nothing: "),
 ];
 
 fn main() -> ExitCode {
@@ -38,15 +42,16 @@ fn main() -> ExitCode {
         eprintln!("usage: compare-solo SOLO");
         return ExitCode::from(2);
     };
-    let cases: Vec<Case> = schedules().into_iter().chain(wrong_arguments()).collect();
-    let failures = compare(Path::new(program), &cases, expected);
-    report(&format!("{SCHEDULES} schedules"), failures)
+    let wrong = wrong_arguments();
+    let counted = format!("{SCHEDULES} schedules and {} wrong calls", wrong.len());
+    let cases: Vec<Case> = schedules().into_iter().chain(wrong).collect();
+    report(&counted, compare(Path::new(program), &cases, expected))
 }
 
 fn expected(case: &Case) -> Expected {
     let [line, script] = case.files.as_slice() else { unreachable!("each case has two files") };
-    if case.name.starts_with("wrong") {
-        return Expected::Failure;
+    if let Some((_, words)) = WRONG.iter().find(|(arguments, _)| case.arguments == *arguments) {
+        return Expected::Failure(words);
     }
     let house = case.arguments[0].parse().expect("the house of a schedule is a number");
     Expected::Answer(solo::answer(house, &line.bytes, &script.bytes))
@@ -68,7 +73,7 @@ fn schedules() -> Vec<Case> {
 
 fn wrong_arguments() -> Vec<Case> {
     let mut cases = Vec::new();
-    for (number, arguments) in WRONG.iter().enumerate() {
+    for (number, (arguments, _)) in WRONG.iter().enumerate() {
         cases.push(Case {
             name: format!("wrong-arguments-{number}"),
             files: vec![File::new("line", Vec::new()), File::new("script", b"ready\n".to_vec())],

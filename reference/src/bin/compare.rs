@@ -23,6 +23,16 @@ const CUT_LOGS: usize = 6;
 const CUT_ORDERS: usize = 5;
 const CUT_LENGTHS: std::ops::RangeInclusive<usize> = 150..=400;
 
+/// Arguments that are wrong, or name what is no file that can be read; and how
+/// the line begins that says so.
+const WRONG: [(&[&str], &str); 5] = [
+    (&["line", "line"], "serial: more than one argument: see 'serial --help'"),
+    (&["--help", "line"], "serial: more than one argument: see 'serial --help'"),
+    (&["nothing"], "serial: nothing: "),
+    (&["no/such/folder"], "serial: no/such/folder: "),
+    (&["."], "serial: .: "),
+];
+
 fn main() -> ExitCode {
     let arguments: Vec<_> = env::args_os().skip(1).collect();
     let [program] = arguments.as_slice() else {
@@ -31,10 +41,17 @@ fn main() -> ExitCode {
     };
     let logs = logs();
     let cuts = cuts();
-    let counted = format!("{} logs and {} cuts", LOGS, cuts.len());
-    let cases: Vec<Case> = logs.into_iter().chain(cuts).collect();
-    let expected = |case: &Case| Expected::Answer(serial::answer(&case.files[0].bytes));
+    let wrong = wrong_arguments();
+    let counted = format!("{LOGS} logs, {} cuts and {} wrong calls", cuts.len(), wrong.len());
+    let cases: Vec<Case> = logs.into_iter().chain(cuts).chain(wrong).collect();
     report(&counted, compare(Path::new(program), &cases, expected))
+}
+
+fn expected(case: &Case) -> Expected {
+    match WRONG.iter().find(|(arguments, _)| case.arguments == *arguments) {
+        Some((_, words)) => Expected::Failure(words),
+        None => Expected::Answer(serial::answer(&case.files[0].bytes)),
+    }
 }
 
 /// The program is told by its argument which log to take.
@@ -58,6 +75,15 @@ fn logs() -> Vec<Case> {
         cases.push(as_argument(name, log));
     }
     cases
+}
+
+fn wrong_arguments() -> Vec<Case> {
+    let case = |(number, (arguments, _)): (usize, &(&[&str], &str))| Case {
+        name: format!("wrong-arguments-{number}"),
+        files: vec![File::new("line", Vec::new())],
+        arguments: arguments.iter().map(|argument| argument.to_string()).collect(),
+    };
+    WRONG.iter().enumerate().map(case).collect()
 }
 
 /// Every cut of some small logs, from no bytes to the whole.
