@@ -56,17 +56,14 @@ mod tests {
             Instruction::Write { slot: 1, from: 3 },
             Instruction::Abort,
         ];
-        let Ok(order) = Order::new(&[1, 258], &[7, 65535], &code) else {
-            return Err(Fail::new("a valid order was refused"));
-        };
+        let order = Order::new(&[1, 258], &[7, 65535], &code)?;
         let bytes = order.encode(rt.alloc())?;
         let expected = [
             2, 0, 1, 1, 2, 2, 0, 7, 255, 255, 4, 5, 3, 1, 2, 3, 4, 6, 0, 3, 200, 7, 1, 3, 8,
         ];
         assert!(rt; bytes.as_slice() == expected.as_slice(), "the bytes");
-        let Ok(again) = Order::decode(bytes.as_slice()) else {
-            return Err(Fail::new("its own bytes were refused"));
-        };
+        let again = Order::decode(bytes.as_slice())?;
+        assert!(rt; again == order);
         assert!(rt; again.reads() == order.reads());
         assert!(rt; again.writes() == order.writes());
         assert_eq!(rt; again.code().len(), 4);
@@ -81,16 +78,12 @@ mod tests {
             Instruction::Write { slot: 0, from: 0 },
             Instruction::Abort,
         ];
-        let Ok(writes) = Order::new(&[], &[4], &said[0..2]) else {
-            return Err(Fail::new("refused"));
-        };
+        let writes = Order::new(&[], &[4], &said[0..2])?;
         match run(&writes, &[]) {
             Outcome::Writes(values) => assert_eq!(rt; values[0], 7),
             Outcome::Nothing => return Err(Fail::new("it writes")),
         }
-        let Ok(aborts) = Order::new(&[], &[4], &said) else {
-            return Err(Fail::new("refused"));
-        };
+        let aborts = Order::new(&[], &[4], &said)?;
         match run(&aborts, &[]) {
             Outcome::Writes(_) => Err(Fail::new("it writes nothing")),
             Outcome::Nothing => Ok(()),
@@ -100,9 +93,7 @@ mod tests {
     // A key that was read and not said stays; one that was neither read nor said becomes 0.
     #[test]
     fn an_unsaid_key_stays_only_where_it_was_read(rt: HostRuntime) -> Result<(), Fail> {
-        let Ok(order) = Order::new(&[2, 9], &[9, 30], &[]) else {
-            return Err(Fail::new("refused"));
-        };
+        let order = Order::new(&[2, 9], &[9, 30], &[])?;
         match run(&order, &[11, 12]) {
             Outcome::Writes(values) => {
                 assert_eq!(rt; values[0], 12);
@@ -116,12 +107,8 @@ mod tests {
     #[test]
     fn a_log_grows_and_is_read_again(rt: HostRuntime) -> Result<(), Fail> {
         let mut log = Log::new(rt.alloc());
-        let Ok(first) = log.append(&[0, 0, 0]) else {
-            return Err(Fail::new("no memory"));
-        };
-        let Ok(second) = log.append(&[]) else {
-            return Err(Fail::new("no memory"));
-        };
+        let first = log.append(&[0, 0, 0])?;
+        let second = log.append(&[])?;
         assert_eq!(rt; first, 0);
         assert_eq!(rt; second, 1);
         assert!(rt; log.as_bytes() == [0, 3, 0, 0, 0, 0, 0].as_slice());

@@ -1,5 +1,5 @@
 -- Lists with the same marks are the same.
-use Rattle.std.proofs.Common.{◌≡◌, true, false, ◌&&◌, eqb, List, [], ◌∷◌, sym, refl, ap, ◌∙◌}
+use Rattle.std.proofs.Common.{◌≡◌, true, false, ◌&&◌, eqb, List, [], ◌∷◌, refl}
 use Rattle.std.proofs.lemmas.Bool.{both_ways, eqb-true, eq-eqb, and_parts, and_from}
 use Rattle.turns.specs.Queues.{both}
 use Rattle.turns.specs.declared.entry.Mark.{Mark}
@@ -23,6 +23,3 @@ alike_marks_refl [] = refl
 alike_marks_refl (m ∷ ms) =
     and_from (eqb m.key m.key) (both m.writes m.writes && alike_marks ms ms) (eq-eqb m.key m.key refl)
     (and_from (both m.writes m.writes) (alike_marks ms ms) (both_refl m.writes) (alike_marks_refl ms))
-
-pub alike_marks_from_same : (ms ns : List Mark) → ms ≡ ns → alike_marks ms ns ≡ true
-alike_marks_from_same ms ns e = ap (alike_marks ms) (sym e) ∙ alike_marks_refl ms

@@ -1,6 +1,7 @@
 -- Whether a house may look or write is what the machine says, both ways.
 use Rattle.std.proofs.Common.{◌≡◌, ℕ, suc, ◌%◌, ◌<◌, ◌≤◌, Bool, true, false, cond, not, ◌&&◌, ◌||◌, eqb, leb, List, [], ◌∷◌, length, get_or, is_some, Some, None, Decides, filter, Option, unwrap_or, sym, refl, ap, ◌∙◌, inl, inr, arith}
-use Rattle.std.proofs.lemmas.Bool.{both_ways, not-true, not_from_false, and_parts, and_from, and_left, and_cases, or_cases, or_left, or_right, cases_Bool, cond-true, cond-false, eqb-true, eq-eqb, ne_eqb, leb-true}
+use Rattle.std.proofs.lemmas.Bool.Decides.{Decides-at}
+use Rattle.std.proofs.lemmas.Bool.{both_ways, not-true, not_from_false, and_parts, and_from, and_cases, or_cases, or_left, or_right, cases_Bool, cond-true, cond-false, eqb-true, eq-eqb, ne_eqb, leb-true}
 use Rattle.orders.specs.Transaction.{Transaction, lookup, is_in}
 use Rattle.orders.specs.Valid.{rising}
 use Rattle.protocol.specs.Log.{at, some, reads, writes, writes_in, effect}
@@ -110,7 +111,7 @@ module _ (s : Ledger) (i : ℕ) where
   log j l = at_own s j l
 
   pub not_noted : looked_at s i ≡ false → (state_of s).noted i ≡ None
-  not_noted e = cond-false (looked_at s i) (Some (note_of s.number (order_at s i).reads (slots_at s i))) None e
+  not_noted e = cond-false (looked_at s i) (Some (note_of s.owner.number (order_at s i).reads (slots_at s i))) None e
 
   can_look : may_look s i ≡ true → CanLook s i
   can_look e =
@@ -121,7 +122,7 @@ module _ (s : Ledger) (i : ℕ) where
 
   look_may : CanLook s i → may_look s i ≡ true
   look_may c =
-      let a = look_asks (log_of s) s.number [] c.1 in
+      let a = look_asks (log_of s) s.owner.number [] c.1 in
       let unlooked : looked_at s i ≡ false = elim (cases_Bool (looked_at s i)) [
         | inl e ↦ absurd (both_ways (is_some ((state_of s).noted i)) (ap is_some a.2) (noted_some s (log_of s) log i a.0 ∙ e))
         | inr e ↦ e
@@ -134,7 +135,7 @@ module _ (s : Ledger) (i : ℕ) where
 
   -- an order that writes here has as many slots as it reads keys
   pub slots_wide : (w : Bool) → marked w (marks_of s.turns i) ≡ true → length (slots_at s i) ≡ length (order_at s i).reads
-  slots_wide w m = s.wide i ∙ cond-false (eqb (length (marks_for s.number (order_at s i))) 0) 0 (length (order_at s i).reads) (ne_eqb (length (marks_for s.number (order_at s i))) 0 (λ e. none (marks_for s.number (order_at s i)) e (ap (marked w) (sym (marks_are s i)) ∙ m)))
+  slots_wide w m = s.wide i ∙ cond-false (eqb (length (marks_for s.owner.number (order_at s i))) 0) 0 (length (order_at s i).reads) (ne_eqb (length (marks_for s.owner.number (order_at s i))) 0 (λ e. none (marks_for s.owner.number (order_at s i)) e (ap (marked w) (sym (marks_are s i)) ∙ m)))
     where
       none : (ms : List Mark) → length ms ≡ 0 → marked w ms ≡ true → ⊥
       none [] e m = both_ways false refl m
@@ -143,24 +144,24 @@ module _ (s : Ledger) (i : ℕ) where
   -- what the house knows of a key that the order reads
   pub knows_given : (os : List Transaction) → ((j : ℕ) → j < count_of s.turns → at os j ≡ order_at s j) → i < count_of s.turns → length (slots_at s i) ≡ length (order_at s i).reads →
       (marked false (marks_of s.turns i) ≡ true → looked_at s i ≡ true) → known (slots_at s i) ≡ true →
-      (k : ℕ) → is_in k (order_at s i).reads ≡ true → knows os (base os).own s.number (state_of s) i k ≡ Some (lookup (order_at s i).reads (given (slots_at s i)) k 0)
+      (k : ℕ) → is_in k (order_at s i).reads ≡ true → knows os (base os).own s.owner.number (state_of s) i k ≡ Some (lookup (order_at s i).reads (given (slots_at s i)) k 0)
   knows_given os log' l wide looked kn k r =
-      elim (cases_Bool (owns s.number k)) [
+      elim (cases_Bool (owns s.owner.number k)) [
         | inl o ↦
-            cond-true (eqb (k % 16) s.number) (from_note os (base os).own s.number i ((state_of s).noted i) k) ((state_of s).heard i k) o
-            ∙ ap (λ n. from_note os (base os).own s.number i n k) (cond-true (looked_at s i) (Some (note_of s.number (order_at s i).reads (slots_at s i))) None (looked (own_read o)))
-            ∙ ap (λ ks. Some (lookup ks (note_of s.number (order_at s i).reads (slots_at s i)) k 0)) (own_reads_is s os log' i l)
-            ∙ ap Some (note_given s.number (order_at s i).reads (slots_at s i) k wide o)
+            cond-true (eqb (k % 16) s.owner.number) (from_note os (base os).own s.owner.number i ((state_of s).noted i) k) ((state_of s).heard i k) o
+            ∙ ap (λ n. from_note os (base os).own s.owner.number i n k) (cond-true (looked_at s i) (Some (note_of s.owner.number (order_at s i).reads (slots_at s i))) None (looked (own_read o)))
+            ∙ ap (λ ks. Some (lookup ks (note_of s.owner.number (order_at s i).reads (slots_at s i)) k 0)) (own_reads_is s os log' i l)
+            ∙ ap Some (note_given s.owner.number (order_at s i).reads (slots_at s i) k wide o)
         | inr o ↦
-            cond-false (eqb (k % 16) s.number) (from_note os (base os).own s.number i ((state_of s).noted i) k) ((state_of s).heard i k) o
-            ∙ cond-false (owns s.number k) None (slot_of (order_at s i).reads (slots_at s i) k) o
+            cond-false (eqb (k % 16) s.owner.number) (from_note os (base os).own s.owner.number i ((state_of s).noted i) k) ((state_of s).heard i k) o
+            ∙ cond-false (owns s.owner.number k) None (slot_of (order_at s i).reads (slots_at s i) k) o
             ∙ slot_given (order_at s i).reads (slots_at s i) k wide kn r
       ]
     where
-      own_read : owns s.number k ≡ true → marked false (marks_of s.turns i) ≡ true
+      own_read : owns s.owner.number k ≡ true → marked false (marks_of s.turns i) ≡ true
       own_read o =
-          sym (reads_is s os log' i l) ∙ reads_from_reads_in os (base os).own s.number i k
-          (and_from (is_in k (at os i).reads) (eqb (k % 16) s.number) (ap (λ t. is_in k t.reads) (log' i l) ∙ r) o)
+          sym (reads_is s os log' i l) ∙ reads_from_reads_in os (base os).own s.owner.number i k
+          (and_from (is_in k (at os i).reads) (eqb (k % 16) s.owner.number) (ap (λ t. is_in k t.reads) (log' i l) ∙ r) o)
 
   noted_where : (b m : Bool) → (b || not m) ≡ true → m ≡ true → b ≡ true
   noted_where true m e f = refl
@@ -176,7 +177,7 @@ module _ (s : Ledger) (i : ℕ) where
       let looked = noted_where (looked_at s i) (marked false (marks_of s.turns i)) r.0 in (
         _,
         writes_its (state_of s) i (λ k. lookup (order_at s i).reads (given (slots_at s i)) k 0)
-            (λ k. cond (writes_in (log_of s) (base (log_of s)).own s.number i k) (effect (at (log_of s) i) (λ k. lookup (order_at s i).reads (given (slots_at s i)) k 0) k ((state_of s).value k)) ((state_of s).value k))
+            (λ k. cond (writes_in (log_of s) (base (log_of s)).own s.owner.number i k) (effect (at (log_of s) i) (λ k. lookup (order_at s i).reads (given (slots_at s i)) k 0) k ((state_of s).value k)) ((state_of s).value k))
             l (omega arith) (writes_is s (log_of s) log i l ∙ p.0)
             (ap (λ b. b && marked true (marks_of s.turns i)) (not-true (done_of s.turns i) q.0))
             (λ f. noted_some s (log_of s) log i l ∙ looked (sym (reads_is s (log_of s) log i l) ∙ f)) (ready_to s (log_of s) log i l t.1)
@@ -185,7 +186,7 @@ module _ (s : Ledger) (i : ℕ) where
 
   write_may : CanWrite s i → may_write s i ≡ true
   write_may c =
-      let a = write_asks (log_of s) s.number [] c.1 in
+      let a = write_asks (log_of s) s.owner.number [] c.1 in
       let m : marked true (marks_of s.turns i) ≡ true = sym (writes_is s (log_of s) log i a.0) ∙ a.1 in
       let undone : done_of s.turns i ≡ false = elim (and_cases (done_of s.turns i) (marked true (marks_of s.turns i)) a.2) [ inl e ↦ e | inr e ↦ absurd (both_ways (marked true (marks_of s.turns i)) e m) ] in
       let looked : marked false (marks_of s.turns i) ≡ true → looked_at s i ≡ true = λ f. sym (noted_some s (log_of s) log i a.0) ∙ a.3 (reads_is s (log_of s) log i a.0 ∙ f) in
@@ -193,7 +194,7 @@ module _ (s : Ledger) (i : ℕ) where
       (and_from (not (done_of s.turns i)) ((looked_at s i || not (marked false (marks_of s.turns i))) && (known (slots_at s i) && ready (marks_of s.turns) (done_of s.turns) i)) (not_from_false (done_of s.turns i) undone)
       (and_from (looked_at s i || not (marked false (marks_of s.turns i))) (known (slots_at s i) && ready (marks_of s.turns) (done_of s.turns) i) (either (looked_at s i) (marked false (marks_of s.turns i)) looked)
       (and_from (known (slots_at s i)) (ready (marks_of s.turns) (done_of s.turns) i)
-      (known_from_slots 0 s.number (order_at s i).reads (slots_at s i) (reads_rise (get_or (rows_of s.orders) i [])) (slots_wide true m) (own_slots looked) (λ k r o. foreign k o (a.5 k (ap (λ x. is_in k x.reads) (log i a.0) ∙ r))))
+      (known_from_slots 0 s.owner.number (order_at s i).reads (slots_at s i) (reads_rise (get_or (rows_of s.orders) i [])) (slots_wide true m) (own_slots looked) (λ k r o. foreign k o (a.5 k (ap (λ x. is_in k x.reads) (log i a.0) ∙ r))))
       (ready_from s (log_of s) log i a.0 a.4))))
     where
       either : (b m : Bool) → (m ≡ true → b ≡ true) → (b || not m) ≡ true
@@ -201,25 +202,25 @@ module _ (s : Ledger) (i : ℕ) where
       either false true f = absurd (both_ways false refl (f refl))
       either false false f = refl
 
-      foreign : (k : ℕ) → owns s.number k ≡ false → is_some (knows (log_of s) (base (log_of s)).own s.number (state_of s) i k) ≡ true → is_some (slot_of (order_at s i).reads (slots_at s i) k) ≡ true
+      foreign : (k : ℕ) → owns s.owner.number k ≡ false → is_some (knows (log_of s) (base (log_of s)).own s.owner.number (state_of s) i k) ≡ true → is_some (slot_of (order_at s i).reads (slots_at s i) k) ≡ true
       foreign k o e =
-          ap is_some (sym (cond-false (owns s.number k) None (slot_of (order_at s i).reads (slots_at s i) k) o)
-          ∙ sym (cond-false (eqb (k % 16) s.number) (from_note (log_of s) (base (log_of s)).own s.number i ((state_of s).noted i) k) ((state_of s).heard i k) o)) ∙ e
+          ap is_some (sym (cond-false (owns s.owner.number k) None (slot_of (order_at s i).reads (slots_at s i) k) o)
+          ∙ sym (cond-false (eqb (k % 16) s.owner.number) (from_note (log_of s) (base (log_of s)).own s.owner.number i ((state_of s).noted i) k) ((state_of s).heard i k) o)) ∙ e
 
       -- no key of its own, or all of them noted
-      own_slots : (marked false (marks_of s.turns i) ≡ true → looked_at s i ≡ true) → own_known s.number (order_at s i).reads (slots_at s i) ≡ true
+      own_slots : (marked false (marks_of s.turns i) ≡ true → looked_at s i ≡ true) → own_known s.owner.number (order_at s i).reads (slots_at s i) ≡ true
       own_slots looked =
           elim (cases_Bool (marked false (marks_of s.turns i))) [
             | inl f ↦ s.filled i (looked f)
-            | inr f ↦ none_own s.number (order_at s i).reads (slots_at s i) (sym (marked_reads s.number (order_at s i)) ∙ ap (marked false) (sym (marks_are s i)) ∙ f)
+            | inr f ↦ none_own s.owner.number (order_at s i).reads (slots_at s i) (sym (marked_reads s.owner.number (order_at s i)) ∙ ap (marked false) (sym (marks_are s i)) ∙ f)
           ]
 
   pub write_decided : Decides (may_write s i) (CanWrite s i)
   write_decided = (can_write, write_may)
 
--- a test of several parts, up to the first that fails
-pub fails_here : (a b : Bool) → false ≡ a → false ≡ (a && b)
-fails_here a b e = e ∙ sym (and_left a b (sym e) ∙ e)
+-- a test that comes to that decides too
+pub look_by : (s : Ledger) (i : ℕ) (b : Bool) → b ≡ may_look s i → Decides b (CanLook s i)
+look_by s i b e = Decides-at b (may_look s i) e (look_decided s i)
 
-pub goes_on : (a b x : Bool) → true ≡ a → x ≡ b → x ≡ (a && b)
-goes_on a b x p h = h ∙ ap (λ c. c && b) p
+pub write_by : (s : Ledger) (i : ℕ) (b : Bool) → b ≡ may_write s i → Decides b (CanWrite s i)
+write_by s i b e = Decides-at b (may_write s i) e (write_decided s i)

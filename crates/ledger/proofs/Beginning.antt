@@ -1,5 +1,5 @@
 -- A ledger with no orders.
-use Rattle.std.proofs.Common.{◌≡◌, ℕ, ◌/◌, Bool, true, false, cond, ◌&&◌, List, [], length, get_or, replicate, Some, None, vec_items, Option, sym, refl, ap, ◌∙◌, inl, inr, arith}
+use Rattle.std.proofs.Common.{◌≡◌, ℕ, ◌/◌, Bool, true, false, cond, ◌&&◌, List, [], length, get_or, replicate, Some, None, vec_items, Option, sym, refl, ap, ◌∙◌, subst, inl, inr, arith}
 use Rattle.std.proofs.lemmas.List.{get_or-replicate, get_or_past, length-replicate}
 use Rattle.std.proofs.lemmas.Bool.{cases_lt}
 use Rattle.orders.specs.Codec.{decoded}
@@ -39,23 +39,23 @@ both_none false x = refl
 zeros : (n i : ℕ) → ◌≡◌ {A = ℕ} (get_or (replicate n 0) i 0) 0
 zeros n i = elim (cases_lt i n) [ inl lt ↦ get_or-replicate n i 0 0 lt | inr ge ↦ get_or_past (replicate n 0) i 0 (omega (arith, length-replicate {A = ℕ} n 0)) ]
 
-module _ (s : Ledger) (orders_are : rows_of s.orders ≡ []) (marks_are : rows_of s.turns.marks ≡ []) (slots_are : rows_of s.slots ≡ []) (done_is : vec_items s.turns.done ≡ []) (looked_is : vec_items s.looked ≡ []) (n : ℕ) (values_are : vec_items s.values ≡ replicate n 0) where
+module _ (s : Ledger) (orders_are : rows_of s.orders ≡ []) (marks_are : rows_of s.turns.marks ≡ []) (slots_are : rows_of s.slots ≡ []) (done_is : vec_items s.turns.done ≡ []) (looked_is : vec_items s.looked ≡ []) (n : ℕ) (values_are : vec_items s.values.own ≡ replicate n 0) where
   none_had : count_of s.turns ≡ 0
   none_had = s.turns.done.ok.0 ∙ ap length done_is
 
   value_0 : (k : ℕ) → value_in s k ≡ 0
-  value_0 k = ap (λ v. cond (owns s.number k) v 0) (ap (λ l. get_or l (k / 16) 0) values_are ∙ zeros n (k / 16)) ∙ both_none (owns s.number k) 0
+  value_0 k = ap (λ v. cond (owns s.owner.number k) v 0) (ap (λ l. get_or l (k / 16) 0) values_are ∙ zeros n (k / 16)) ∙ both_none (owns s.owner.number k) 0
 
   none_noted : (i : ℕ) → (state_of s).noted i ≡ None
-  none_noted i = ap (λ l. cond (get_or l i false) (Some (note_of s.number (order_at s i).reads (slots_at s i))) None) looked_is
+  none_noted i = ap (λ l. cond (get_or l i false) (Some (note_of s.owner.number (order_at s i).reads (slots_at s i))) None) looked_is
 
   none_wrote : (i : ℕ) → (state_of s).wrote i ≡ false
   none_wrote i = ap (λ l. get_or l i false && marked true (marks_of s.turns i)) done_is
 
   none_heard : (i k : ℕ) → (state_of s).heard i k ≡ None
-  none_heard i k = ap (cond (owns s.number k) None) (ap (λ l. slot_of (order_at s i).reads (get_or l i []) k) slots_are ∙ unslotted (order_at s i).reads k) ∙ both_none (owns s.number k) None
+  none_heard i k = ap (cond (owns s.owner.number k) None) (ap (λ l. slot_of (order_at s i).reads (get_or l i []) k) slots_are ∙ unslotted (order_at s i).reads k) ∙ both_none (owns s.owner.number k) None
 
-  pub fresh_at_first : Fresh s s.number
+  pub fresh_at_first : Fresh s s.owner.number
   fresh_at_first =
       record {
         number_is = refl;
@@ -66,3 +66,6 @@ module _ (s : Ledger) (orders_are : rows_of s.orders ≡ []) (marks_are : rows_o
         looked_is = looked_is;
         state_is = λ j. record { have = none_had j; value = λ k. value_0 k j; noted = λ i. none_noted i j; synced = λ i. false; wrote = λ i. none_wrote i j; heard = λ i k. none_heard i k j; place = 0; saved = λ k. 0; copied = λ g. 0 };
       }
+
+pub fresh_by : (s : Ledger) (h n : ℕ) → h ≡ n → Fresh s h → Fresh s n
+fresh_by s h n = subst (Fresh s)

@@ -52,7 +52,7 @@ pub row_pushed : {T : Type 0} {X : Type 0} {Y : Type 0} (r : Result X Y) (old mi
 row_pushed (Ok x) old mid new row ok p same = p ∙ ap (λ l. l ++ row ∷ []) same
 row_pushed (Err y) old mid new row ok q same = absurd (both_ways false refl ok)
 
-pub refused_by_turns : (e : TurnsError) (s : Ledger) (bs : List ℕ) → turns.Refuses e s.turns (marks_for s.number (transaction bs)) → RefusesOrder (of_turns e) s bs
+pub refused_by_turns : (e : TurnsError) (s : Ledger) (bs : List ℕ) → turns.Refuses e s.turns (marks_for s.owner.number (transaction bs)) → RefusesOrder (of_turns e) s bs
 refused_by_turns errors.Full s bs r = r
 refused_by_turns errors.Memory s bs r = (r.0, inr (inr (inr r.1)))
 
@@ -235,7 +235,7 @@ lists_of s = record { orders = rows_of s.orders; marks = rows_of s.turns.marks; 
 pub record Taken (s : Ledger) (bs : List ℕ) (row : List Mark) (n w : ℕ) : Type 0 where
   pub order : Contents
   pub keys : ((transaction bs).reads ≡ order.reads) × ((transaction bs).writes ≡ order.writes)
-  pub row_is : row ≡ own_marks true s.number order.writes ++ own_marks false s.number order.reads
+  pub row_is : row ≡ own_marks true s.owner.number order.writes ++ own_marks false s.owner.number order.reads
   pub row_long : length row ≡ n
   pub way : ((n ≡ 0) × (w ≡ 0)) ⊎ ((n ≡ 0 → ⊥) × (w ≡ length order.reads))
   pub few : w ≤ 16
@@ -244,8 +244,8 @@ abbrev pub none : ℕ → List (Option ℕ)
 none w = take w (replicate 16 None)
 
 module _ (s : Ledger) (bs : List ℕ) (row : List Mark) (n w : ℕ) (t : Taken s bs row n w) where
-  pub row_meant : row ≡ marks_for s.number (transaction bs)
-  row_meant = marks_meant s.number bs t.order row t.keys t.row_is
+  pub row_meant : row ≡ marks_for s.owner.number (transaction bs)
+  row_meant = marks_meant s.owner.number bs t.order row t.keys t.row_is
 
   none_is : none w ≡ replicate w None
   none_is = take-replicate w 16 None t.few
@@ -254,7 +254,7 @@ module _ (s : Ledger) (bs : List ℕ) (row : List Mark) (n w : ℕ) (t : Taken s
   none_long = ap length none_is ∙ length-replicate w None
 
   pub more_from : (b : Lists) → b.orders ≡ rows_of s.orders ++ bs ∷ [] → b.marks ≡ rows_of s.turns.marks ++ row ∷ [] → b.done ≡ vec_items s.turns.done ++ eqb (length row) 0 ∷ [] →
-      b.slots ≡ rows_of s.slots ++ none w ∷ [] → b.looked ≡ vec_items s.looked ++ false ∷ [] → More s.number bs (count_of s.turns) (lists_of s) b
+      b.slots ≡ rows_of s.slots ++ none w ∷ [] → b.looked ≡ vec_items s.looked ++ false ∷ [] → More s.owner.number bs (count_of s.turns) (lists_of s) b
   more_from b orders_are marks_are done_is slots_are looked_is =
       record {
         orders_long = s.ordered;
@@ -265,15 +265,15 @@ module _ (s : Ledger) (bs : List ℕ) (row : List Mark) (n w : ℕ) (t : Taken s
         orders_are = orders_are;
         marks_are = marks_are ∙ ap (λ r. rows_of s.turns.marks ++ r ∷ []) row_meant;
         done_is = done_is ∙ ap (λ (r : List Mark). vec_items s.turns.done ++ eqb (length r) 0 ∷ []) row_meant;
-        slots_are = slots_are ∙ ap (λ r. rows_of s.slots ++ r ∷ []) (none_is ∙ ap (λ m. replicate m None) (width_meant s.number bs t.order row n w t.keys.0 row_meant t.row_long t.way));
+        slots_are = slots_are ∙ ap (λ r. rows_of s.slots ++ r ∷ []) (none_is ∙ ap (λ m. replicate m None) (width_meant s.owner.number bs t.order row n w t.keys.0 row_meant t.row_long t.way));
         looked_is = looked_is;
       }
 
 -- the machine's step, and all that differs
-module _ (s s' : Ledger) (bs : List ℕ) (m : More s.number bs (count_of s.turns) (lists_of s) (lists_of s')) (number_is : s'.number ≡ s.number) (values_are : vec_items s'.values ≡ vec_items s.values) where
+module _ (s s' : Ledger) (bs : List ℕ) (m : More s.owner.number bs (count_of s.turns) (lists_of s) (lists_of s')) (number_is : s'.owner.number ≡ s.owner.number) (values_are : vec_items s'.values.own ≡ vec_items s.values.own) where
   count_grown : suc (count_of s.turns) ≡ count_of s'.turns
   count_grown =
-      let e : length (vec_items s'.turns.done) ≡ count_of s.turns + 1 = one_longer (vec_items s.turns.done) (vec_items s'.turns.done) (eqb (length (marks_for s.number (transaction bs))) 0) false (count_of s.turns) m.done_long m.done_is in
+      let e : length (vec_items s'.turns.done) ≡ count_of s.turns + 1 = one_longer (vec_items s.turns.done) (vec_items s'.turns.done) (eqb (length (marks_for s.owner.number (transaction bs))) 0) false (count_of s.turns) m.done_long m.done_is in
       let l = s'.turns.done.ok.0 in
       omega arith
 
@@ -282,7 +282,7 @@ module _ (s s' : Ledger) (bs : List ℕ) (m : More s.number bs (count_of s.turns
 
   state_grown : ◌≡◌ {A = House} (record { have = suc (count_of s.turns); value = value_in s; noted = (state_of s).noted; synced = λ i. false; wrote = (state_of s).wrote; heard = (state_of s).heard; place = 0; saved = λ k. 0; copied = λ g. 0 }) (state_of s')
   state_grown =
-      let h = s.number in
+      let h = s.owner.number in
       let noted' : (h' : ℕ) (i : ℕ) → Option (List ℕ) = λ h' i. cond (looked_at s' i) (Some (note_of h' (order_at s' i).reads (slots_at s' i))) None in
       let heard' : (h' : ℕ) (i k : ℕ) → Option ℕ = λ h' i k. cond (owns h' k) None (slot_of (order_at s' i).reads (slots_at s' i) k) in
       let n : (i : ℕ) → (state_of s).noted i ≡ (state_of s').noted i = λ i. noted_grown h bs (count_of s.turns) (lists_of s) (lists_of s') m i ∙ ap (λ g. noted' g i) (sym number_is) in
@@ -310,7 +310,7 @@ module _ (s s' : Ledger) (bs : List ℕ) (m : More s.number bs (count_of s.turns
   pub grown : Grown s s' bs
   grown =
       record {
-        steps = λ more soup. subst (λ t. Act (log_of s' ++ more) (base (log_of s' ++ more)) s.number soup grow (state_of s) t []) state_grown (grows (state_of s) (log_grown more));
+        steps = λ more soup. subst (λ t. Act (log_of s' ++ more) (base (log_of s' ++ more)) s.owner.number soup grow (state_of s) t []) state_grown (grows (state_of s) (log_grown more));
         number_is = number_is;
         orders_are = m.orders_are;
         marks_are = m.marks_are;
@@ -321,15 +321,15 @@ module _ (s s' : Ledger) (bs : List ℕ) (m : More s.number bs (count_of s.turns
       }
 
 -- what the ledger keeps
-module _ (s : Ledger) (bs : List ℕ) (b : Lists) (m : More s.number bs (count_of s.turns) (lists_of s) b) where
+module _ (s : Ledger) (bs : List ℕ) (b : Lists) (m : More s.owner.number bs (count_of s.turns) (lists_of s) b) where
   pub orders_longer : length b.orders ≡ count_of s.turns + 1
   orders_longer = one_longer (rows_of s.orders) b.orders bs [] (count_of s.turns) m.orders_long m.orders_are
 
   pub done_longer : length b.done ≡ count_of s.turns + 1
-  done_longer = one_longer (vec_items s.turns.done) b.done (eqb (length (marks_for s.number (transaction bs))) 0) false (count_of s.turns) m.done_long m.done_is
+  done_longer = one_longer (vec_items s.turns.done) b.done (eqb (length (marks_for s.owner.number (transaction bs))) 0) false (count_of s.turns) m.done_long m.done_is
 
   pub slots_longer : length b.slots ≡ count_of s.turns + 1
-  slots_longer = one_longer (rows_of s.slots) b.slots (replicate (slot_count s.number (transaction bs)) None) [] (count_of s.turns) m.slots_long m.slots_are
+  slots_longer = one_longer (rows_of s.slots) b.slots (replicate (slot_count s.owner.number (transaction bs)) None) [] (count_of s.turns) m.slots_long m.slots_are
 
   pub looked_longer : length b.looked ≡ count_of s.turns + 1
   looked_longer = one_longer (vec_items s.looked) b.looked false false (count_of s.turns) m.looked_long m.looked_is

@@ -10,4 +10,5 @@ pub mod Loading
 pub mod Putting
 pub mod Writing
 pub mod Noting
+pub mod Owning
 pub mod Telling

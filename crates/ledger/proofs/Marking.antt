@@ -1,40 +1,30 @@
--- The marks of the keys that are a house's own, one key after the other.
-use Rattle.std.proofs.Common.{◌≡◌, ℕ, suc, ◌+◌, ◌<◌, Bool, true, false, cond, List, [], ◌∷◌, ◌++◌, length, get_or, take, drop, set, sym, ap, ◌∙◌, arith}
-use Rattle.std.proofs.lemmas.List.{at_drop_more, append_assoc, take_more_set}
-use Rattle.std.proofs.lemmas.Bool.{cond-true, cond-false}
+-- What is counted and found among the keys, marks and slots of an order.
+use Rattle.std.proofs.Common.{◌≡◌, ℕ, suc, Bool, true, false, cond, ◌||◌, ◌&&◌, List, [], ◌∷◌, length, is_some, Option, filter, refl, ap}
+use mathlib.Core.Bool.{beq}
+use Rattle.std.specs.List.{list_any, list_all}
+use Rattle.std.proofs.lemmas.List.Recursion.{same_from_clauses}
+use Rattle.turns.specs.Queues.{both}
 use Rattle.turns.specs.declared.entry.Mark.{Mark}
-use Rattle.ledger.specs.Own.{owns, own_marks, own_count}
+use Rattle.ledger.specs.Own.{owns, own_count, marked, known}
 
--- counting
-module _ (h : ℕ) (ks : List ℕ) (i n : ℕ) (in' : i < length ks) (inv : n + own_count h (drop i ks) ≡ own_count h ks) where
-  count_from_here : own_count h (drop i ks) ≡ cond (owns h (get_or ks i 0)) (suc (own_count h (drop (i + 1) ks))) (own_count h (drop (i + 1) ks))
-  count_from_here = at_drop_more (own_count h) ks i 0 in'
+pub own_counted : (h : ℕ) (ks : List ℕ) → length (filter (owns h) ks) ≡ own_count h ks
+own_counted h [] = refl
+own_counted h (k ∷ ks) = by (owns h k) (own_counted h ks)
+  where
+    by : (b : Bool) → length (filter (owns h) ks) ≡ own_count h ks → length (cond b (k ∷ filter (owns h) ks) (filter (owns h) ks)) ≡ cond b (suc (own_count h ks)) (own_count h ks)
+    by true e = ap suc e
+    by false e = e
 
-  pub counted_own : owns h (get_or ks i 0) ≡ true → (n + 1) + own_count h (drop (i + 1) ks) ≡ own_count h ks
-  counted_own own =
-      let e : own_count h (drop i ks) ≡ suc (own_count h (drop (i + 1) ks)) = count_from_here ∙ cond-true (owns h (get_or ks i 0)) (suc (own_count h (drop (i + 1) ks))) (own_count h (drop (i + 1) ks)) own in
-      omega arith
+-- the code's test of two flags
+both_is : (a b : Bool) → beq b a ≡ both a b
+both_is true true = refl
+both_is true false = refl
+both_is false true = refl
+both_is false false = refl
 
-  pub counted_other : owns h (get_or ks i 0) ≡ false → n + own_count h (drop (i + 1) ks) ≡ own_count h ks
-  counted_other other =
-      let e : own_count h (drop i ks) ≡ own_count h (drop (i + 1) ks) = count_from_here ∙ cond-false (owns h (get_or ks i 0)) (suc (own_count h (drop (i + 1) ks))) (own_count h (drop (i + 1) ks)) other in
-      omega arith
+pub any_marked : (w : Bool) (ms : List Mark) → list_any (λ m. beq m.writes w) ms ≡ marked w ms
+any_marked w [] = refl
+any_marked w (m ∷ ms) = (λ x. both_is w m.writes x || any_marked w ms x)
 
--- marking: ms, the marks so far; all: those that there will be
-module _ (w : Bool) (h : ℕ) (ks : List ℕ) (i n : ℕ) (ms all : List Mark) (in' : i < length ks) (inv : take n ms ++ own_marks w h (drop i ks) ≡ all) where
-  marks_from_here : own_marks w h (drop i ks) ≡ cond (owns h (get_or ks i 0)) (record { key = get_or ks i 0; writes = w } ∷ own_marks w h (drop (i + 1) ks)) (own_marks w h (drop (i + 1) ks))
-  marks_from_here = at_drop_more (own_marks w h) ks i 0 in'
-
-  pub marked_own : n < length ms → owns h (get_or ks i 0) ≡ true →
-      take (n + 1) (set ms n (record { key = get_or ks i 0; writes = w })) ++ own_marks w h (drop (i + 1) ks) ≡ all
-  marked_own room own =
-      let m : Mark = record { key = get_or ks i 0; writes = w } in
-      let rest = own_marks w h (drop (i + 1) ks) in
-      ap (λ t. t ++ rest) (take_more_set ms n m room) ∙ append_assoc (take n ms) (m ∷ []) rest
-      ∙ ap (λ t. take n ms ++ t) (sym (marks_from_here ∙ cond-true (owns h (get_or ks i 0)) (m ∷ rest) rest own)) ∙ inv
-
-  pub marked_other : owns h (get_or ks i 0) ≡ false → take n ms ++ own_marks w h (drop (i + 1) ks) ≡ all
-  marked_other other =
-      let m : Mark = record { key = get_or ks i 0; writes = w } in
-      let rest = own_marks w h (drop (i + 1) ks) in
-      ap (λ t. take n ms ++ t) (sym (marks_from_here ∙ cond-false (owns h (get_or ks i 0)) (m ∷ rest) rest other)) ∙ inv
+pub all_are_known : (vs : List (Option ℕ)) → list_all is_some vs ≡ known vs
+all_are_known vs = same_from_clauses (list_all is_some) known (λ v b. is_some v && b) refl (λ _ _. refl) (λ _ _. refl) vs

@@ -1,6 +1,6 @@
 -- Laws of what a house notes, and of a ledger that has looked.
 use Rattle.std.proofs.Common.{◌≡◌, ℕ, zero, suc, ◌+◌, ◌/◌, ◌%◌, ◌<◌, ◌≤◌, Bool, true, false, cond, not, ◌&&◌, ◌||◌, eqb, List, [], ◌∷◌, ◌++◌, map, length, get_or, take, set, is_some, Some, None, vec_items, vec_len, filter, Option, unwrap_or, sym, refl, ap, ◌∙◌, subst, add-one, arith}
-use Rattle.std.proofs.lemmas.List.{length-map, length-take, take_all, set-get_or, map-append, append-nil, get_or-set_same, get_or-set_other}
+use Rattle.std.proofs.lemmas.List.{length-map, length-take, map-append, append-nil, get_or-set_same, get_or-set_other}
 use Rattle.std.proofs.lemmas.List.Elements.{filter_more}
 use Rattle.std.proofs.lemmas.List.Sums.{length-filter, count_by-le-length}
 use Rattle.std.proofs.lemmas.Bool.{both_ways, not-true, cond-true, cond-false, cond_both, eqb-true, eqb-false, ne_eqb, and_parts, and_right, or_right}
@@ -49,15 +49,6 @@ module _ (h : ℕ) (f : ℕ → ℕ) where
   module _ (ks : List ℕ) (rs : List (List (Option ℕ))) (at : ℕ) where
     abbrev pub NotedUpto : ℕ → List ℕ → List (List (Option ℕ)) → Type 0
     NotedUpto i ns rs' = (ns ≡ map f (filter (owns h) (take i ks))) × (rs' ≡ set rs at (noting h f (take i ks) (get_or rs at [])))
-
-    pub noted_none : NotedUpto 0 [] rs
-    noted_none = (refl, sym (set-get_or rs at []))
-
-    pub noted_all : (i : ℕ) (ns : List ℕ) (rs' : List (List (Option ℕ))) → length ks ≤ i → NotedUpto i ns rs' →
-        (ns ≡ map f (filter (owns h) ks)) × (rs' ≡ set rs at (noting h f ks (get_or rs at [])))
-    noted_all i ns rs' l p =
-        let e : take i ks ≡ ks = take_all i ks l in
-        (p.0 ∙ ap (λ l. map f (filter (owns h) l)) e, p.1 ∙ ap (λ l. set rs at (noting h f l (get_or rs at []))) e)
 
     -- how many there are by then
     pub noted_few : (i : ℕ) (ns : List ℕ) (rs' : List (List (Option ℕ))) → i < length ks → length ks ≤ 16 → NotedUpto i ns rs' → length ns < 16
@@ -155,8 +146,8 @@ some_marks w (m ∷ ms) e z = omega arith
 
 pub slots_full : (s : Ledger) (w : Bool) (i : ℕ) → marked w (marks_of s.turns i) ≡ true → length (slots_at s i) ≡ length (order_at s i).reads
 slots_full s w i e =
-    let n : ℕ = length (marks_for s.number (order_at s i)) in
-    s.wide i ∙ cond-false (eqb n 0) 0 (length (order_at s i).reads) (ne_eqb n 0 (some_marks w (marks_for s.number (order_at s i)) (ap (marked w) (sym (marks_are s i)) ∙ e)))
+    let n : ℕ = length (marks_for s.owner.number (order_at s i)) in
+    s.wide i ∙ cond-false (eqb n 0) 0 (length (order_at s i).reads) (ne_eqb n 0 (some_marks w (marks_for s.owner.number (order_at s i)) (ap (marked w) (sym (marks_are s i)) ∙ e)))
 
 -- a list changed at one place, place by place
 pub at_set : {X : Type 0} (xs : List X) (i n : ℕ) (x d : X) → i < length xs → get_or (set xs i x) n d ≡ cond (eqb n i) x (get_or xs n d)
@@ -222,32 +213,32 @@ module _ (s : Ledger) (i : ℕ) (may : may_look s i ≡ true) where
 
   -- what it notes
   abbrev row : List (Option ℕ)
-  row = noting s.number (value_in s) (order_at s i).reads (slots_at s i)
+  row = noting s.owner.number (value_in s) (order_at s i).reads (slots_at s i)
 
-  pub wide_again : (rs : List (List (Option ℕ))) → rs ≡ set (rows_of s.slots) i row → (n : ℕ) → length (get_or rs n []) ≡ slot_count s.number (order_at s n)
-  wide_again rs e n = ap (λ l. length (get_or l n [])) e ∙ ap length (slots_at_is row n) ∙ cond_both (eqb n i) row (slots_at s n) (λ l. length l ≡ slot_count s.number (order_at s n)) here (λ _. s.wide n)
+  pub wide_again : (rs : List (List (Option ℕ))) → rs ≡ set (rows_of s.slots) i row → (n : ℕ) → length (get_or rs n []) ≡ slot_count s.owner.number (order_at s n)
+  wide_again rs e n = ap (λ l. length (get_or l n [])) e ∙ ap length (slots_at_is row n) ∙ cond_both (eqb n i) row (slots_at s n) (λ l. length l ≡ slot_count s.owner.number (order_at s n)) here (λ _. s.wide n)
     where
-      here : eqb n i ≡ true → length row ≡ slot_count s.number (order_at s n)
-      here q = length_noting s.number (value_in s) (order_at s i).reads (slots_at s i) ∙ s.wide i ∙ ap (λ m. slot_count s.number (order_at s m)) (sym (eqb-true n i q))
+      here : eqb n i ≡ true → length row ≡ slot_count s.owner.number (order_at s n)
+      here q = length_noting s.owner.number (value_in s) (order_at s i).reads (slots_at s i) ∙ s.wide i ∙ ap (λ m. slot_count s.owner.number (order_at s m)) (sym (eqb-true n i q))
 
-  pub filled_again : (rs : List (List (Option ℕ))) → rs ≡ set (rows_of s.slots) i row → (n : ℕ) → get_or (set (vec_items s.looked) i true) n false ≡ true → own_known s.number (order_at s n).reads (get_or rs n []) ≡ true
+  pub filled_again : (rs : List (List (Option ℕ))) → rs ≡ set (rows_of s.slots) i row → (n : ℕ) → get_or (set (vec_items s.looked) i true) n false ≡ true → own_known s.owner.number (order_at s n).reads (get_or rs n []) ≡ true
   filled_again rs e n l =
-      ap (λ rs. own_known s.number (order_at s n).reads (get_or rs n [])) e ∙ ap (own_known s.number (order_at s n).reads) (slots_at_is row n)
-      ∙ cond_both (eqb n i) row (slots_at s n) (λ vs. own_known s.number (order_at s n).reads vs ≡ true)
-      (λ q. ap (λ m. own_known s.number (order_at s m).reads row) (eqb-true n i q) ∙ own_known_noting s.number (value_in s) (order_at s i).reads (slots_at s i))
+      ap (λ rs. own_known s.owner.number (order_at s n).reads (get_or rs n [])) e ∙ ap (own_known s.owner.number (order_at s n).reads) (slots_at_is row n)
+      ∙ cond_both (eqb n i) row (slots_at s n) (λ vs. own_known s.owner.number (order_at s n).reads vs ≡ true)
+      (λ q. ap (λ m. own_known s.owner.number (order_at s m).reads row) (eqb-true n i q) ∙ own_known_noting s.owner.number (value_in s) (order_at s i).reads (slots_at s i))
       (λ q. s.filled n (sym (cond-false (eqb n i) true (looked_at s n) q) ∙ sym (looked_at_is n) ∙ l))
 
   -- what was found in its values for the keys of the order
-  module _ (ks xs : List ℕ) (keys_are : ks ≡ (order_at s i).reads) (values_are : xs ≡ vec_items s.values) where
-    own_value : (k : ℕ) → owns s.number k ≡ true → slot_in xs k ≡ value_in s k
-    own_value k o = ap (λ l. slot_in l k) values_are ∙ sym (cond-true (owns s.number k) (slot_in (vec_items s.values) k) 0 o)
+  module _ (ks xs : List ℕ) (keys_are : ks ≡ (order_at s i).reads) (values_are : xs ≡ vec_items s.values.own) where
+    own_value : (k : ℕ) → owns s.owner.number k ≡ true → slot_in xs k ≡ value_in s k
+    own_value k o = ap (λ l. slot_in l k) values_are ∙ sym (cond-true (owns s.owner.number k) (slot_in (vec_items s.values.own) k) 0 o)
 
-    pub row_is : (rs : List (List (Option ℕ))) → rs ≡ set (rows_of s.slots) i (noting s.number (λ k. slot_in xs k) ks (slots_at s i)) → rs ≡ set (rows_of s.slots) i row
+    pub row_is : (rs : List (List (Option ℕ))) → rs ≡ set (rows_of s.slots) i (noting s.owner.number (λ k. slot_in xs k) ks (slots_at s i)) → rs ≡ set (rows_of s.slots) i row
     row_is rs e =
-        e ∙ ap (set (rows_of s.slots) i) (noting_agree s.number (λ k. slot_in xs k) (value_in s) ks (slots_at s i) own_value ∙ ap (λ l. noting s.number (value_in s) l (slots_at s i)) keys_are)
+        e ∙ ap (set (rows_of s.slots) i) (noting_agree s.owner.number (λ k. slot_in xs k) (value_in s) ks (slots_at s i) own_value ∙ ap (λ l. noting s.owner.number (value_in s) l (slots_at s i)) keys_are)
 
-    pub note_is : (ns : List ℕ) → ns ≡ map (λ k. slot_in xs k) (filter (owns s.number) ks) → ns ≡ map (value_in s) (filter (owns s.number) (order_at s i).reads)
-    note_is ns e = e ∙ map_own_agree s.number (λ k. slot_in xs k) (value_in s) ks own_value ∙ ap (λ l. map (value_in s) (filter (owns s.number) l)) keys_are
+    pub note_is : (ns : List ℕ) → ns ≡ map (λ k. slot_in xs k) (filter (owns s.owner.number) ks) → ns ≡ map (value_in s) (filter (owns s.owner.number) (order_at s i).reads)
+    note_is ns e = e ∙ map_own_agree s.owner.number (λ k. slot_in xs k) (value_in s) ks own_value ∙ ap (λ l. map (value_in s) (filter (owns s.owner.number) l)) keys_are
 
   -- t: the turns after it, in which the order is done unless it writes here
   module _ (t : Turns) (same_marks : t.marks ≡ s.turns.marks) (done_is : OnceLooked s i (vec_items t.done)) where
@@ -274,8 +265,8 @@ module _ (s : Ledger) (i : ℕ) (may : may_look s i ≡ true) where
     marks_at : (n : ℕ) → marks_of t n ≡ marks_of s.turns n
     marks_at n = ap (λ m. get_or (rows_of m) n []) same_marks
 
-    pub matched_again : (n : ℕ) → alike_marks (marks_of t n) (marks_for s.number (order_at s n)) ≡ true
-    matched_again n = ap (λ ms. alike_marks ms (marks_for s.number (order_at s n))) (marks_at n) ∙ s.matched n
+    pub matched_again : (n : ℕ) → alike_marks (marks_of t n) (marks_for s.owner.number (order_at s n)) ≡ true
+    matched_again n = ap (λ ms. alike_marks ms (marks_for s.owner.number (order_at s n))) (marks_at n) ∙ s.matched n
 
     pub seen_again : (n : ℕ) → done_of t n ≡ true → marked false (marks_of t n) ≡ true → get_or (set (vec_items s.looked) i true) n false ≡ true
     seen_again n d m =
@@ -290,9 +281,9 @@ module _ (s : Ledger) (i : ℕ) (may : may_look s i ≡ true) where
         ∙ ap (λ b. not (marked false (marks_of t n)) || b) (sym (looked_at_is n))
 
   -- s': the ledger after it
-  module _ (s' : Ledger) (number_is : s'.number ≡ s.number) (orders_are : rows_of s'.orders ≡ rows_of s.orders) (same_marks : s'.turns.marks ≡ s.turns.marks)
+  module _ (s' : Ledger) (number_is : s'.owner.number ≡ s.owner.number) (orders_are : rows_of s'.orders ≡ rows_of s.orders) (same_marks : s'.turns.marks ≡ s.turns.marks)
       (done_is : OnceLooked s i (vec_items s'.turns.done))
-      (slots_are : rows_of s'.slots ≡ set (rows_of s.slots) i row) (looked_is : vec_items s'.looked ≡ set (vec_items s.looked) i true) (values_are : vec_items s'.values ≡ vec_items s.values) where
+      (slots_are : rows_of s'.slots ≡ set (rows_of s.slots) i row) (looked_is : vec_items s'.looked ≡ set (vec_items s.looked) i true) (values_are : vec_items s'.values.own ≡ vec_items s.values.own) where
     abbrev wr : ℕ → Bool
     wr n = marked true (marks_of s.turns n)
 
@@ -305,7 +296,7 @@ module _ (s : Ledger) (i : ℕ) (may : may_look s i ≡ true) where
     abbrev looked' : ℕ → Bool
     looked' n = cond (eqb n i) true (looked_at s n)
 
-    state_after : state_of s' ≡ house_with s.number (count_of s.turns) (vec_items s.values) looked' (λ n. (order_at s n).reads) slots' done' wr
+    state_after : state_of s' ≡ house_with s.owner.number (count_of s.turns) (vec_items s.values.own) looked' (λ n. (order_at s n).reads) slots' done' wr
     state_after =
         let count = same_count s.turns s'.turns same_marks in
         let look_at : (n : ℕ) → looked_at s' n ≡ looked' n = λ n. ap (λ l. get_or l n false) looked_is ∙ looked_at_is n in
@@ -315,14 +306,14 @@ module _ (s : Ledger) (i : ℕ) (may : may_look s i ≡ true) where
         (λ n. marked true (get_or (rows_of (same_marks x)) n []))
 
     abbrev note : List ℕ
-    note = map (value_in s) (filter (owns s.number) (order_at s i).reads)
+    note = map (value_in s) (filter (owns s.owner.number) (order_at s i).reads)
 
-    noted_at : (n : ℕ) → put i (Some note) (state_of s).noted n ≡ cond (looked' n) (Some (note_of s.number (order_at s n).reads (slots' n))) None
-    noted_at n = by (eqb n i) (λ q. ap (λ m. note_of s.number (order_at s m).reads row) (eqb-true n i q) ∙ note_of_noting s.number (value_in s) (order_at s i).reads (slots_at s i) (slots_full s false i reads_here))
+    noted_at : (n : ℕ) → put i (Some note) (state_of s).noted n ≡ cond (looked' n) (Some (note_of s.owner.number (order_at s n).reads (slots' n))) None
+    noted_at n = by (eqb n i) (λ q. ap (λ m. note_of s.owner.number (order_at s m).reads row) (eqb-true n i q) ∙ note_of_noting s.owner.number (value_in s) (order_at s i).reads (slots_at s i) (slots_full s false i reads_here))
       where
-        by : (b : Bool) → (b ≡ true → note_of s.number (order_at s n).reads row ≡ note) →
-            cond b (Some note) (cond (looked_at s n) (Some (note_of s.number (order_at s n).reads (slots_at s n))) None)
-            ≡ cond (cond b true (looked_at s n)) (Some (note_of s.number (order_at s n).reads (cond b row (slots_at s n)))) None
+        by : (b : Bool) → (b ≡ true → note_of s.owner.number (order_at s n).reads row ≡ note) →
+            cond b (Some note) (cond (looked_at s n) (Some (note_of s.owner.number (order_at s n).reads (slots_at s n))) None)
+            ≡ cond (cond b true (looked_at s n)) (Some (note_of s.owner.number (order_at s n).reads (cond b row (slots_at s n)))) None
         by true e = ap Some (sym (e refl))
         by false e = refl
 
@@ -334,14 +325,14 @@ module _ (s : Ledger) (i : ℕ) (may : may_look s i ≡ true) where
         by false e true q = let z : wr n ≡ false = ap wr (q refl) ∙ e in and_right (done_of s.turns n) (wr n) z ∙ sym z
         by false e false q = refl
 
-    heard_at : (n k : ℕ) → (state_of s).heard n k ≡ cond (owns s.number k) None (slot_of (order_at s n).reads (slots' n) k)
-    heard_at n k = by (owns s.number k) refl (eqb n i) (λ q. eqb-true n i q)
+    heard_at : (n k : ℕ) → (state_of s).heard n k ≡ cond (owns s.owner.number k) None (slot_of (order_at s n).reads (slots' n) k)
+    heard_at n k = by (owns s.owner.number k) refl (eqb n i) (λ q. eqb-true n i q)
       where
-        by : (o : Bool) → owns s.number k ≡ o → (b : Bool) → (b ≡ true → n ≡ i) →
+        by : (o : Bool) → owns s.owner.number k ≡ o → (b : Bool) → (b ≡ true → n ≡ i) →
             cond o None (slot_of (order_at s n).reads (slots_at s n) k) ≡ cond o None (slot_of (order_at s n).reads (cond b row (slots_at s n)) k)
         by true e b q = refl
         by false e true q =
-            ap (λ m. slot_of (order_at s m).reads (slots_at s m) k) (q refl) ∙ sym (slot_of_noting s.number (value_in s) (order_at s i).reads (slots_at s i) k e)
+            ap (λ m. slot_of (order_at s m).reads (slots_at s m) k) (q refl) ∙ sym (slot_of_noting s.owner.number (value_in s) (order_at s i).reads (slots_at s i) k e)
             ∙ ap (λ m. slot_of (order_at s m).reads row k) (sym (q refl))
         by false e false q = refl
 
@@ -352,9 +343,9 @@ module _ (s : Ledger) (i : ℕ) (may : may_look s i ≡ true) where
         let own : ℕ → ℕ → ℕ = λ j k. k % 16 in
         let log : (j : ℕ) → j < count_of s.turns → at (log_of s' ++ more) j ≡ order_at s j =
         λ j l. at_log s' j (omega (arith, same_count s.turns s'.turns same_marks)) more ∙ ap (λ rs. transaction (get_or rs j [])) orders_are in
-        let none : (state_of s).noted i ≡ None = cond-false (looked_at s i) (Some (note_of s.number (order_at s i).reads (slots_at s i))) None not_looked in
+        let none : (state_of s).noted i ≡ None = cond-false (looked_at s i) (Some (note_of s.owner.number (order_at s i).reads (slots_at s i))) None not_looked in
         let keys = own_reads_is s os log i within in
-        subst (λ t. Act (log_of s' ++ more) (base (log_of s' ++ more)) s.number soup (look i) (state_of s) t [])
+        subst (λ t. Act (log_of s' ++ more) (base (log_of s' ++ more)) s.owner.number soup (look i) (state_of s) t [])
         ((λ x. record {
           have = count_of s.turns;
           value = value_in s;
@@ -369,7 +360,7 @@ module _ (s : Ledger) (i : ℕ) (may : may_look s i ≡ true) where
         ∙ sym state_after)
         (looks (state_of s) i within (omega arith) (reads_is s os log i within ∙ reads_here) none (ready_to s os log i within is_ready))
 
-    pub looked_from : (ns : List ℕ) → ns ≡ map (value_in s) (filter (owns s.number) (order_at s i).reads) → Looked s s' i ns
+    pub looked_from : (ns : List ℕ) → ns ≡ map (value_in s) (filter (owns s.owner.number) (order_at s i).reads) → Looked s s' i ns
     looked_from ns notes =
         record {
           may = may;

@@ -1,7 +1,8 @@
 -- Laws of what a house is told, and of a ledger that has heard.
-use Rattle.std.proofs.Common.{◌≡◌, ℕ, zero, suc, ◌+◌, ◌%◌, ◌<◌, ◌≤◌, Bool, true, false, cond, ◌&&◌, ◌||◌, eqb, List, [], ◌∷◌, ◌++◌, length, get_or, take, drop, set, is_some, Some, None, vec_items, filter, Option, unwrap_or, sym, refl, ap, ◌∙◌, subst, inl, inr, add-one, arith}
-use Rattle.std.specs.List.{ContainsAt as Has}
-use Rattle.std.proofs.lemmas.List.{take_all, set-get_or}
+use Rattle.std.proofs.Common.{◌≡◌, ℕ, suc, ◌+◌, ◌%◌, ◌<◌, ◌≤◌, Bool, true, false, cond, ◌&&◌, ◌||◌, eqb, List, [], ◌∷◌, ◌++◌, length, get_or, drop, set, is_some, Some, None, vec_items, filter, Option, unwrap_or, sym, refl, ap, ◌∙◌, subst, inl, inr, arith}
+use Rattle.std.specs.List.{ContainsAt as Has, find, zip, enumerate_from}
+use Rattle.std.specs.Option.{MatchOption, option_map}
+use Rattle.std.proofs.lemmas.List.{at_drop_more, append-nil, append_assoc, set_at, set_past, length_push}
 use Rattle.std.proofs.lemmas.Bool.{both_ways, cond-true, cond-false, cond_both, eqb-true, eqb-false, ne_eqb, or_from, cases_Bool}
 use Rattle.orders.specs.Meaning.{transaction}
 use Rattle.orders.specs.Transaction.{Transaction, lookup, is_in}
@@ -16,43 +17,47 @@ use Rattle.ledger.specs.declared.ledger.Ledger.{Ledger}
 use Rattle.ledger.proofs.Noting.{set_again, at_set, slots_full, house_with}
 use Rattle.ledger.proofs.Ties.{at_log, own_reads_of}
 
--- whether a house has told before, key by key
-module _ (h : ℕ) where
-  told_no_slots : (ks : List ℕ) → told_by h ks [] ≡ false
-  told_no_slots [] = refl
-  told_no_slots (k ∷ ks) = refl
+-- whether a house has told before: what is found first among its keys
+abbrev pub told_in : Option (ℕ × Option ℕ) → Bool
+told_in None = false
+told_in (Some p) = is_some p.1
 
-  told_other_suc : (ks : List ℕ) (vs : List (Option ℕ)) (i : ℕ) → i < length ks → owns h (get_or ks i 0) ≡ false → told_by h (drop (suc i) ks) (drop (suc i) vs) ≡ told_by h (drop i ks) (drop i vs)
-  told_other_suc [] vs i l o = absurd (omega arith)
-  told_other_suc (k ∷ ks) [] zero l o = told_no_slots ks
-  told_other_suc (k ∷ ks) (v ∷ vs) zero l o = sym (cond-false (owns h k) (is_some v) (told_by h ks vs) o)
-  told_other_suc (k ∷ ks) [] (suc i) l o = told_no_slots (drop (suc i) ks) ∙ sym (told_no_slots (drop i ks))
-  told_other_suc (k ∷ ks) (v ∷ vs) (suc i) l o = told_other_suc ks vs i (omega arith) o
+pub told_found : (h : ℕ) (ks : List ℕ) (vs : List (Option ℕ)) → told_in (find (λ (p : ℕ × Option ℕ). owns h p.0) (zip ks vs)) ≡ told_by h ks vs
+told_found h [] vs = refl
+told_found h (k ∷ ks) [] = refl
+told_found h (k ∷ ks) (v ∷ vs) = by (owns h k) (told_found h ks vs)
+  where
+    by : (b : Bool) → told_in (find (λ (p : ℕ × Option ℕ). owns h p.0) (zip ks vs)) ≡ told_by h ks vs →
+        told_in (cond b (Some (k, v)) (find (λ (p : ℕ × Option ℕ). owns h p.0) (zip ks vs))) ≡ cond b (is_some v) (told_by h ks vs)
+    by true e = refl
+    by false e = e
 
-  pub told_other : (ks : List ℕ) (vs : List (Option ℕ)) (i : ℕ) → i < length ks → owns h (get_or ks i 0) ≡ false → told_by h (drop (i + 1) ks) (drop (i + 1) vs) ≡ told_by h (drop i ks) (drop i vs)
-  told_other ks vs i l o = ap (λ n. told_by h (drop n ks) (drop n vs)) (add-one i) ∙ told_other_suc ks vs i l o
+pub told_from : {A : Type 0} (o : Option A) (v : A → ℕ × Option ℕ) (Q : A → Type 0) (r : Bool) → MatchOption o (r ≡ false) Q → ((x : A) → Q x → r ≡ is_some (v x).1) → r ≡ told_in (option_map v o)
+told_from None v Q r m q = m
+told_from (Some x) v Q r m q = q x m
 
-  pub told_here : (ks : List ℕ) (vs : List (Option ℕ)) (i : ℕ) (d : Option ℕ) → i < length ks → owns h (get_or ks i 0) ≡ true → i < length vs → told_by h (drop i ks) (drop i vs) ≡ is_some (get_or vs i d)
-  told_here [] vs i d l o m = absurd (omega arith)
-  told_here (k ∷ ks) [] i d l o m = absurd (omega arith)
-  told_here (k ∷ ks) (v ∷ vs) zero d l o m = cond-true (owns h k) (is_some v) (told_by h ks vs) o
-  told_here (k ∷ ks) (v ∷ vs) (suc i) d l o m = told_here ks vs i d (omega arith) o (omega arith)
+-- the values of a house beside its keys, each with its place, and what putting them there leaves
+abbrev pub own_from : ℕ → ℕ → List ℕ → List (ℕ × ℕ)
+own_from g n ks = filter (λ (p : ℕ × ℕ). owns g p.1) (enumerate_from n ks)
 
-  pub told_past_slots : (ks : List ℕ) (vs : List (Option ℕ)) (i : ℕ) → length vs ≤ i → told_by h (drop i ks) (drop i vs) ≡ false
-  told_past_slots ks [] zero m = told_no_slots ks
-  told_past_slots ks (v ∷ vs) zero m = absurd (omega arith)
-  told_past_slots [] vs (suc i) m = refl
-  told_past_slots (k ∷ ks) [] (suc i) m = told_no_slots (drop i ks)
-  told_past_slots (k ∷ ks) (v ∷ vs) (suc i) m = told_past_slots ks vs i (omega arith)
+abbrev pub paired : ℕ → List ℕ → List ℕ → List ((ℕ × ℕ) × ℕ)
+paired g ks ns = zip (own_from g 0 ks) ns
 
-  pub told_past_keys : (ks : List ℕ) (vs : List (Option ℕ)) (i : ℕ) → length ks ≤ i → told_by h (drop i ks) (drop i vs) ≡ false
-  told_past_keys [] vs zero m = refl
-  told_past_keys (k ∷ ks) vs zero m = absurd (omega arith)
-  told_past_keys [] vs (suc i) m = refl
-  told_past_keys (k ∷ ks) [] (suc i) m = told_no_slots (drop i ks)
-  told_past_keys (k ∷ ks) (v ∷ vs) (suc i) m = told_past_keys ks vs i (omega arith)
+abbrev pub put_all : List ((ℕ × ℕ) × ℕ) → List (Option ℕ) → List (Option ℕ)
+put_all [] vs = vs
+put_all (p ∷ ps) vs = put_all ps (set vs p.0.0 (Some p.1))
 
--- one key more
+-- the loop over them: one value more
+module _ (rs rs' : List (List (Option ℕ))) (at : ℕ) (ps : List ((ℕ × ℕ) × ℕ)) (i n : ℕ) (p : (ℕ × ℕ) × ℕ) where
+  pub put_turn : i < length ps → p ≡ get_or ps i p → n ≡ i + 1 → rs' ≡ set rs at (set (get_or rs at []) p.0.0 (Some p.1)) →
+      set rs' at (put_all (drop n ps) (get_or rs' at [])) ≡ set rs at (put_all (drop i ps) (get_or rs at []))
+  put_turn l is e r =
+      let row = set (get_or rs at []) p.0.0 (Some p.1) in
+      (λ x. set (r x) at (put_all (drop (e x) ps) (get_or (r x) at [])))
+      ∙ set_again rs at row (put_all (drop (i + 1) ps))
+      ∙ ap (λ q. set rs at (put_all (q ∷ drop (i + 1) ps) (get_or rs at []))) is
+      ∙ sym (at_drop_more (λ qs. set rs at (put_all qs (get_or rs at []))) ps i p l)
+
 module _ (g : ℕ) where
   telling_none : (ks : List ℕ) (vs : List (Option ℕ)) → telling g ks [] vs ≡ vs
   telling_none [] vs = refl
@@ -67,105 +72,58 @@ module _ (g : ℕ) where
   telling_first_other k ks [] v vs o = ap (λ l. v ∷ l) (sym (telling_none ks vs))
   telling_first_other k ks (n ∷ ns) v vs o = cond-false (owns g k) (Some n ∷ telling g ks ns vs) (v ∷ telling g ks (n ∷ ns) vs) o
 
-  telling_no_slots : (ks ns : List ℕ) → telling g ks ns [] ≡ []
-  telling_no_slots [] ns = refl
-  telling_no_slots (k ∷ ks) ns = refl
-
   count_own : (k : ℕ) (ks : List ℕ) → owns g k ≡ true → own_count g (k ∷ ks) ≡ suc (own_count g ks)
   count_own k ks o = cond-true (owns g k) (suc (own_count g ks)) (own_count g ks) o
 
   count_other : (k : ℕ) (ks : List ℕ) → owns g k ≡ false → own_count g (k ∷ ks) ≡ own_count g ks
   count_other k ks o = cond-false (owns g k) (suc (own_count g ks)) (own_count g ks) o
 
-  pub count_more_own : (ks : List ℕ) (i : ℕ) → i < length ks → owns g (get_or ks i 0) ≡ true → own_count g (take (suc i) ks) ≡ suc (own_count g (take i ks))
-  count_more_own [] i l o = absurd (omega arith)
-  count_more_own (k ∷ ks) zero l o = count_own k [] o
-  count_more_own (k ∷ ks) (suc i) l o = by (owns g k) (count_more_own ks i (omega arith) o)
+  zip_none : (xs : List (ℕ × ℕ)) → ◌≡◌ {A = List ((ℕ × ℕ) × ℕ)} (zip xs []) []
+  zip_none [] = refl
+  zip_none (x ∷ xs) = refl
+
+  own_first : (n k : ℕ) (ks : List ℕ) → owns g k ≡ true → own_from g n (k ∷ ks) ≡ (n, k) ∷ own_from g (n + 1) ks
+  own_first n k ks o = cond-true (owns g k) ((n, k) ∷ own_from g (n + 1) ks) (own_from g (n + 1) ks) o
+
+  own_later : (n k : ℕ) (ks : List ℕ) → owns g k ≡ false → own_from g n (k ∷ ks) ≡ own_from g (n + 1) ks
+  own_later n k ks o = cond-false (owns g k) ((n, k) ∷ own_from g (n + 1) ks) (own_from g (n + 1) ks) o
+
+  -- no slot is changed behind the last
+  put_past : (n : ℕ) (ks ns : List ℕ) (vs : List (Option ℕ)) → length vs ≤ n → put_all (zip (own_from g n ks) ns) vs ≡ vs
+  put_past n [] ns vs l = refl
+  put_past n (k ∷ ks) ns vs l =
+      elim (cases_Bool (owns g k)) [
+        | inl y ↦ ap (λ ps. put_all (zip ps ns) vs) (own_first n k ks y) ∙ here (λ ms. put_past (n + 1) ks ms vs (omega arith)) ns
+        | inr y ↦ ap (λ ps. put_all (zip ps ns) vs) (own_later n k ks y) ∙ put_past (n + 1) ks ns vs (omega arith)
+      ]
     where
-      by : (b : Bool) → own_count g (take (suc i) ks) ≡ suc (own_count g (take i ks)) →
-          cond b (suc (own_count g (take (suc i) ks))) (own_count g (take (suc i) ks)) ≡ suc (cond b (suc (own_count g (take i ks))) (own_count g (take i ks)))
-      by true e = ap suc e
-      by false e = e
+      here : ((ns : List ℕ) → put_all (zip (own_from g (n + 1) ks) ns) vs ≡ vs) → (ns : List ℕ) → put_all (zip ((n, k) ∷ own_from g (n + 1) ks) ns) vs ≡ vs
+      here rest [] = refl
+      here rest (m ∷ ns) = ap (put_all (zip (own_from g (n + 1) ks) ns)) (set_past vs n (Some m) l) ∙ rest ns
 
-  pub count_more_other : (ks : List ℕ) (i : ℕ) → i < length ks → owns g (get_or ks i 0) ≡ false → own_count g (take (suc i) ks) ≡ own_count g (take i ks)
-  count_more_other [] i l o = absurd (omega arith)
-  count_more_other (k ∷ ks) zero l o = count_other k [] o
-  count_more_other (k ∷ ks) (suc i) l o = ap (λ n. cond (owns g k) (suc n) n) (count_more_other ks i (omega arith) o)
-
-  telling_own_suc : (ks ns : List ℕ) (vs : List (Option ℕ)) (i c : ℕ) → i < length ks → owns g (get_or ks i 0) ≡ true → c ≡ own_count g (take i ks) → c < length ns →
-      telling g (take (suc i) ks) ns vs ≡ set (telling g (take i ks) ns vs) i (Some (get_or ns c 0))
-  telling_own_suc [] ns vs i c l o e m = absurd (omega arith)
-  telling_own_suc (k ∷ ks) [] vs i c l o e m = absurd (omega arith)
-  telling_own_suc (k ∷ ks) (n ∷ ns) [] i c l o e m =
-      telling_no_slots (take (suc i) (k ∷ ks)) (n ∷ ns) ∙ sym (ap (λ l. set l i (Some (get_or (n ∷ ns) c 0))) (telling_no_slots (take i (k ∷ ks)) (n ∷ ns)))
-  telling_own_suc (k ∷ ks) (n ∷ ns) (v ∷ vs) zero c l o e m = telling_first_own k n [] ns v vs o ∙ ap (λ x. Some (get_or (n ∷ ns) x 0) ∷ vs) (sym e)
-  telling_own_suc (k ∷ ks) (n ∷ ns) (v ∷ vs) (suc i) c l o e m =
+  -- pre: the slots before
+  put_from : (n : ℕ) (ks ns : List ℕ) (pre vs : List (Option ℕ)) → length pre ≡ n → put_all (zip (own_from g n ks) ns) (pre ++ vs) ≡ pre ++ telling g ks ns vs
+  put_from n [] ns pre vs l = refl
+  put_from n (k ∷ ks) ns pre [] l = put_past n (k ∷ ks) ns (pre ++ []) (omega (arith, ap length (append-nil pre)))
+  put_from n (k ∷ ks) [] pre (v ∷ vs) l = ap (λ ps. put_all ps (pre ++ v ∷ vs)) (zip_none (own_from g n (k ∷ ks)))
+  put_from n (k ∷ ks) (m ∷ ns) pre (v ∷ vs) l =
       elim (cases_Bool (owns g k)) [
         | inl y ↦
-            let d : c ≡ suc (own_count g (take i ks)) = e ∙ count_own k (take i ks) y in
-            telling_first_own k n (take (suc i) ks) ns v vs y
-            ∙ ap (λ l. Some n ∷ l) (telling_own_suc ks ns vs i (own_count g (take i ks)) (omega arith) o refl (omega arith))
-            ∙ ap (λ x. Some n ∷ set (telling g (take i ks) ns vs) i (Some (get_or (n ∷ ns) x 0))) (sym d)
-            ∙ ap (λ l. set l (suc i) (Some (get_or (n ∷ ns) c 0))) (sym (telling_first_own k n (take i ks) ns v vs y))
+            ap (λ ps. put_all (zip ps (m ∷ ns)) (pre ++ v ∷ vs)) (own_first n k ks y)
+            ∙ ap (put_all (zip (own_from g (n + 1) ks) ns)) (set_at pre v vs (Some m) n l ∙ sym (append_assoc pre (Some m ∷ []) vs))
+            ∙ put_from (n + 1) ks ns (pre ++ Some m ∷ []) vs (omega (arith, length_push pre (Some m)))
+            ∙ append_assoc pre (Some m ∷ []) (telling g ks ns vs)
+            ∙ ap (λ l. pre ++ l) (sym (telling_first_own k m ks ns v vs y))
         | inr y ↦
-            telling_first_other k (take (suc i) ks) (n ∷ ns) v vs y
-            ∙ ap (λ l. v ∷ l) (telling_own_suc ks (n ∷ ns) vs i c (omega arith) o (e ∙ count_other k (take i ks) y) m)
-            ∙ ap (λ l. set l (suc i) (Some (get_or (n ∷ ns) c 0))) (sym (telling_first_other k (take i ks) (n ∷ ns) v vs y))
+            ap (λ ps. put_all (zip ps (m ∷ ns)) (pre ++ v ∷ vs)) (own_later n k ks y)
+            ∙ ap (put_all (zip (own_from g (n + 1) ks) (m ∷ ns))) (sym (append_assoc pre (v ∷ []) vs))
+            ∙ put_from (n + 1) ks (m ∷ ns) (pre ++ v ∷ []) vs (omega (arith, length_push pre v))
+            ∙ append_assoc pre (v ∷ []) (telling g ks (m ∷ ns) vs)
+            ∙ ap (λ l. pre ++ l) (sym (telling_first_other k ks (m ∷ ns) v vs y))
       ]
 
-  telling_other_suc : (ks ns : List ℕ) (vs : List (Option ℕ)) (i : ℕ) → i < length ks → owns g (get_or ks i 0) ≡ false → telling g (take (suc i) ks) ns vs ≡ telling g (take i ks) ns vs
-  telling_other_suc [] ns vs i l o = absurd (omega arith)
-  telling_other_suc (k ∷ ks) ns [] i l o = telling_no_slots (take (suc i) (k ∷ ks)) ns ∙ sym (telling_no_slots (take i (k ∷ ks)) ns)
-  telling_other_suc (k ∷ ks) ns (v ∷ vs) zero l o = telling_first_other k [] ns v vs o
-  telling_other_suc (k ∷ ks) [] (v ∷ vs) (suc i) l o = refl
-  telling_other_suc (k ∷ ks) (n ∷ ns) (v ∷ vs) (suc i) l o =
-      let a : telling g (take (suc i) ks) ns vs ≡ telling g (take i ks) ns vs = telling_other_suc ks ns vs i (omega arith) o in
-      let b : telling g (take (suc i) ks) (n ∷ ns) vs ≡ telling g (take i ks) (n ∷ ns) vs = telling_other_suc ks (n ∷ ns) vs i (omega arith) o in
-      λ x. cond (owns g k) (Some n ∷ a x) (v ∷ b x)
-
-  telling_enough : (ks ns : List ℕ) (vs : List (Option ℕ)) (i : ℕ) → length ns ≤ own_count g (take i ks) → telling g (take i ks) ns vs ≡ telling g ks ns vs
-  telling_enough [] ns vs zero e = refl
-  telling_enough [] ns vs (suc i) e = refl
-  telling_enough (k ∷ ks) [] vs i e = telling_none (take i (k ∷ ks)) vs ∙ sym (telling_none (k ∷ ks) vs)
-  telling_enough (k ∷ ks) (n ∷ ns) vs zero e = absurd (omega arith)
-  telling_enough (k ∷ ks) (n ∷ ns) [] (suc i) e = refl
-  telling_enough (k ∷ ks) (n ∷ ns) (v ∷ vs) (suc i) e =
-      elim (cases_Bool (owns g k)) [
-        | inl y ↦
-            telling_first_own k n (take i ks) ns v vs y ∙ ap (λ l. Some n ∷ l) (telling_enough ks ns vs i (omega (arith, count_own k (take i ks) y)))
-            ∙ sym (telling_first_own k n ks ns v vs y)
-        | inr y ↦
-            telling_first_other k (take i ks) (n ∷ ns) v vs y ∙ ap (λ l. v ∷ l) (telling_enough ks (n ∷ ns) vs i (omega (arith, count_other k (take i ks) y)))
-            ∙ sym (telling_first_other k ks (n ∷ ns) v vs y)
-      ]
-
-  -- the loop over the keys: how many values are used and what is in the rows after some of them
-  module _ (ks ns : List ℕ) (rs : List (List (Option ℕ))) (at : ℕ) where
-    abbrev pub ToldUpto : ℕ → ℕ → List (List (Option ℕ)) → Type 0
-    ToldUpto i c rs' = (c ≡ own_count g (take i ks)) × (rs' ≡ set rs at (telling g (take i ks) ns (get_or rs at [])))
-
-    pub told_none : ToldUpto 0 0 rs
-    told_none = (refl, sym (set-get_or rs at []))
-
-    pub told_all : (i c : ℕ) (rs' : List (List (Option ℕ))) → length ks ≤ i → ToldUpto i c rs' → rs' ≡ set rs at (telling g ks ns (get_or rs at []))
-    told_all i c rs' l p = p.1 ∙ ap (λ l. set rs at (telling g l ns (get_or rs at []))) (take_all i ks l)
-
-    pub told_enough : (i c : ℕ) (rs' : List (List (Option ℕ))) → length ns ≤ c → ToldUpto i c rs' → rs' ≡ set rs at (telling g ks ns (get_or rs at []))
-    told_enough i c rs' l p = p.1 ∙ ap (set rs at) (telling_enough ks ns (get_or rs at []) i (omega (arith, p.0)))
-
-    pub told_one : (i c c' : ℕ) (rs' rs'' : List (List (Option ℕ))) → i < length ks → owns g (get_or ks i 0) ≡ true → c < length ns → c' ≡ c + 1 →
-        rs'' ≡ set rs' at (set (get_or rs' at []) i (Some (get_or ns c 0))) → ToldUpto i c rs' → ToldUpto (i + 1) c' rs''
-    told_one i c c' rs' rs'' l o m e r p = (
-      e ∙ add-one c ∙ ap suc p.0 ∙ sym (count_more_own ks i l o) ∙ ap (λ n. own_count g (take n ks)) (sym (add-one i)),
-      r ∙ ap (λ l. set l at (set (get_or l at []) i (Some (get_or ns c 0)))) p.1 ∙ set_again rs at (telling g (take i ks) ns (get_or rs at [])) (λ l. set l i (Some (get_or ns c 0)))
-          ∙ ap (set rs at) (sym (telling_own_suc ks ns (get_or rs at []) i c l o p.0 m)) ∙ ap (λ n. set rs at (telling g (take n ks) ns (get_or rs at []))) (sym (add-one i)),
-    )
-
-    pub told_not : (i c c' : ℕ) (rs' rs'' : List (List (Option ℕ))) → i < length ks → owns g (get_or ks i 0) ≡ false → c' ≡ c → rs'' ≡ rs' → ToldUpto i c rs' → ToldUpto (i + 1) c' rs''
-    told_not i c c' rs' rs'' l o e r p = (
-      e ∙ p.0 ∙ sym (count_more_other ks i l o) ∙ ap (λ n. own_count g (take n ks)) (sym (add-one i)),
-      r ∙ p.1 ∙ ap (set rs at) (sym (telling_other_suc ks ns (get_or rs at []) i l o)) ∙ ap (λ n. set rs at (telling g (take n ks) ns (get_or rs at []))) (sym (add-one i)),
-    )
+  pub put_told : (ks ns : List ℕ) (vs : List (Option ℕ)) → put_all (paired g ks ns) vs ≡ telling g ks ns vs
+  put_told ks ns vs = put_from 0 ks ns [] vs refl
 
   pub length_telling : (ks ns : List ℕ) (vs : List (Option ℕ)) → length (telling g ks ns vs) ≡ length vs
   length_telling [] ns vs = refl
@@ -252,7 +210,7 @@ module _ (g : ℕ) where
           ∙ ap (λ l. cond (is_in k l) (Some (lookup l (n ∷ ns) k 0)) (cond (eqb k x) v (slot_of ks vs k))) (sym (cond-true (owns g x) (x ∷ filter (owns g) ks) (filter (owns g) ks) y))
 
 -- what the tests of a call come to: nothing makes it needless
-pub needed_from : (s : Ledger) (g i : ℕ) (ns ks : List ℕ) (vs : List (Option ℕ)) → (g ≡ s.number → ⊥) → marked true (marks_of s.turns i) ≡ true → eqb (length ns) 0 ≡ false → told_by g ks vs ≡ false →
+pub needed_from : (s : Ledger) (g i : ℕ) (ns ks : List ℕ) (vs : List (Option ℕ)) → (g ≡ s.owner.number → ⊥) → marked true (marks_of s.turns i) ≡ true → eqb (length ns) 0 ≡ false → told_by g ks vs ≡ false →
     ks ≡ (order_at s i).reads → vs ≡ slots_at s i → Needless s g i (length ns) → ⊥
 needed_from s g i ns ks vs o w n t k v (inl e) = o e
 needed_from s g i ns ks vs o w n t k v (inr (inl e)) = both_ways (marked true (marks_of s.turns i)) e w
@@ -261,7 +219,7 @@ needed_from s g i ns ks vs o w n t k v (inr (inr (inr e))) = both_ways (told_by 
 
 -- a ledger s that hears what house g tells for the order at i, and has need of it
 module _ (s : Ledger) (g i : ℕ) (ns : List ℕ) (wanted : Wanted s g i (length ns)) (needed : Needless s g i (length ns) → ⊥) where
-  other : g ≡ s.number → ⊥
+  other : g ≡ s.owner.number → ⊥
   other e = needed (inl e)
 
   writes_here : marked true (marks_of s.turns i) ≡ true
@@ -278,56 +236,56 @@ module _ (s : Ledger) (g i : ℕ) (ns : List ℕ) (wanted : Wanted s g i (length
   slots_at_is : (n : ℕ) → get_or (set (rows_of s.slots) i row) n [] ≡ cond (eqb n i) row (slots_at s n)
   slots_at_is n = at_set (rows_of s.slots) i n row [] (omega (arith, wanted.within, s.slotted))
 
-  pub wide_after : (rs : List (List (Option ℕ))) → rs ≡ set (rows_of s.slots) i row → (n : ℕ) → length (get_or rs n []) ≡ slot_count s.number (order_at s n)
-  wide_after rs e n = ap (λ l. length (get_or l n [])) e ∙ ap length (slots_at_is n) ∙ cond_both (eqb n i) row (slots_at s n) (λ l. length l ≡ slot_count s.number (order_at s n)) here (λ _. s.wide n)
+  pub wide_after : (rs : List (List (Option ℕ))) → rs ≡ set (rows_of s.slots) i row → (n : ℕ) → length (get_or rs n []) ≡ slot_count s.owner.number (order_at s n)
+  wide_after rs e n = ap (λ l. length (get_or l n [])) e ∙ ap length (slots_at_is n) ∙ cond_both (eqb n i) row (slots_at s n) (λ l. length l ≡ slot_count s.owner.number (order_at s n)) here (λ _. s.wide n)
     where
-      here : eqb n i ≡ true → length row ≡ slot_count s.number (order_at s n)
-      here q = length_telling g (order_at s i).reads ns (slots_at s i) ∙ s.wide i ∙ ap (λ m. slot_count s.number (order_at s m)) (sym (eqb-true n i q))
+      here : eqb n i ≡ true → length row ≡ slot_count s.owner.number (order_at s n)
+      here q = length_telling g (order_at s i).reads ns (slots_at s i) ∙ s.wide i ∙ ap (λ m. slot_count s.owner.number (order_at s m)) (sym (eqb-true n i q))
 
-  pub filled_after : (rs : List (List (Option ℕ))) → rs ≡ set (rows_of s.slots) i row → (n : ℕ) → looked_at s n ≡ true → own_known s.number (order_at s n).reads (get_or rs n []) ≡ true
+  pub filled_after : (rs : List (List (Option ℕ))) → rs ≡ set (rows_of s.slots) i row → (n : ℕ) → looked_at s n ≡ true → own_known s.owner.number (order_at s n).reads (get_or rs n []) ≡ true
   filled_after rs e n l =
-      ap (λ rs. own_known s.number (order_at s n).reads (get_or rs n [])) e ∙ ap (own_known s.number (order_at s n).reads) (slots_at_is n)
-      ∙ cond_both (eqb n i) row (slots_at s n) (λ vs. own_known s.number (order_at s n).reads vs ≡ true) here (λ _. s.filled n l)
+      ap (λ rs. own_known s.owner.number (order_at s n).reads (get_or rs n [])) e ∙ ap (own_known s.owner.number (order_at s n).reads) (slots_at_is n)
+      ∙ cond_both (eqb n i) row (slots_at s n) (λ vs. own_known s.owner.number (order_at s n).reads vs ≡ true) here (λ _. s.filled n l)
     where
-      here : eqb n i ≡ true → own_known s.number (order_at s n).reads row ≡ true
+      here : eqb n i ≡ true → own_known s.owner.number (order_at s n).reads row ≡ true
       here q =
           let m : n ≡ i = eqb-true n i q in
-          ap (λ m. own_known s.number (order_at s m).reads row) m ∙ own_known_telling g s.number other (order_at s i).reads ns (slots_at s i) ∙ s.filled i (ap (looked_at s) (sym m) ∙ l)
+          ap (λ m. own_known s.owner.number (order_at s m).reads row) m ∙ own_known_telling g s.owner.number other (order_at s i).reads ns (slots_at s i) ∙ s.filled i (ap (looked_at s) (sym m) ∙ l)
 
   -- s': the ledger after it
-  module _ (s' : Ledger) (number_is : s'.number ≡ s.number) (orders_are : rows_of s'.orders ≡ rows_of s.orders) (turns_are : s'.turns ≡ s.turns)
-      (slots_are : rows_of s'.slots ≡ set (rows_of s.slots) i row) (looked_is : vec_items s'.looked ≡ vec_items s.looked) (values_are : vec_items s'.values ≡ vec_items s.values) where
+  module _ (s' : Ledger) (number_is : s'.owner.number ≡ s.owner.number) (orders_are : rows_of s'.orders ≡ rows_of s.orders) (turns_are : s'.turns ≡ s.turns)
+      (slots_are : rows_of s'.slots ≡ set (rows_of s.slots) i row) (looked_is : vec_items s'.looked ≡ vec_items s.looked) (values_are : vec_items s'.values.own ≡ vec_items s.values.own) where
     abbrev slots' : ℕ → List (Option ℕ)
     slots' n = cond (eqb n i) row (slots_at s n)
 
-    state_after : state_of s' ≡ house_with s.number (count_of s.turns) (vec_items s.values) (looked_at s) (λ n. (order_at s n).reads) slots' (done_of s.turns) (λ n. marked true (marks_of s.turns n))
+    state_after : state_of s' ≡ house_with s.owner.number (count_of s.turns) (vec_items s.values.own) (looked_at s) (λ n. (order_at s n).reads) slots' (done_of s.turns) (λ n. marked true (marks_of s.turns n))
     state_after =
         let slot_at : (n : ℕ) → slots_at s' n ≡ slots' n = λ n. ap (λ l. get_or l n []) slots_are ∙ slots_at_is n in
         λ x. house_with (number_is x) (count_of (turns_are x)) (values_are x) (λ n. get_or (looked_is x) n false) (λ n. (transaction (get_or (orders_are x) n [])).reads) (λ n. slot_at n x)
         (done_of (turns_are x)) (λ n. marked true (marks_of (turns_are x) n))
 
-    noted_at : (n : ℕ) → (state_of s).noted n ≡ cond (looked_at s n) (Some (note_of s.number (order_at s n).reads (slots' n))) None
+    noted_at : (n : ℕ) → (state_of s).noted n ≡ cond (looked_at s n) (Some (note_of s.owner.number (order_at s n).reads (slots' n))) None
     noted_at n = ap (λ l. cond (looked_at s n) (Some l) None) (by (eqb n i) (λ q. eqb-true n i q))
       where
-        by : (b : Bool) → (b ≡ true → n ≡ i) → note_of s.number (order_at s n).reads (slots_at s n) ≡ note_of s.number (order_at s n).reads (cond b row (slots_at s n))
+        by : (b : Bool) → (b ≡ true → n ≡ i) → note_of s.owner.number (order_at s n).reads (slots_at s n) ≡ note_of s.owner.number (order_at s n).reads (cond b row (slots_at s n))
         by true q =
-            ap (λ m. note_of s.number (order_at s m).reads (slots_at s m)) (q refl) ∙ sym (note_of_telling g s.number other (order_at s i).reads ns (slots_at s i))
-            ∙ ap (λ m. note_of s.number (order_at s m).reads row) (sym (q refl))
+            ap (λ m. note_of s.owner.number (order_at s m).reads (slots_at s m)) (q refl) ∙ sym (note_of_telling g s.owner.number other (order_at s i).reads ns (slots_at s i))
+            ∙ ap (λ m. note_of s.owner.number (order_at s m).reads row) (sym (q refl))
         by false q = refl
 
     abbrev keys : List ℕ
     keys = filter (owns g) (order_at s i).reads
 
     abbrev heard' : ℕ → ℕ → Option ℕ
-    heard' n k = cond (owns s.number k) None (slot_of (order_at s n).reads (slots' n) k)
+    heard' n k = cond (owns s.owner.number k) None (slot_of (order_at s n).reads (slots' n) k)
 
-    heard_here : (k : ℕ) → cond (owns s.number k) None (slot_of (order_at s i).reads row k) ≡ hears keys ns ((state_of s).heard i) k
-    heard_here k = by (owns s.number k) refl
+    heard_here : (k : ℕ) → cond (owns s.owner.number k) None (slot_of (order_at s i).reads row k) ≡ hears keys ns ((state_of s).heard i) k
+    heard_here k = by (owns s.owner.number k) refl
       where
-        by : (o : Bool) → owns s.number k ≡ o →
+        by : (o : Bool) → owns s.owner.number k ≡ o →
             cond o None (slot_of (order_at s i).reads row k) ≡ cond (is_in k keys) (Some (lookup keys ns k 0)) (cond o None (slot_of (order_at s i).reads (slots_at s i) k))
         by true e =
-            let z : owns g k ≡ false = ne_eqb (k % 16) g (λ q. other (sym q ∙ eqb-true (k % 16) s.number e)) in
+            let z : owns g k ≡ false = ne_eqb (k % 16) g (λ q. other (sym q ∙ eqb-true (k % 16) s.owner.number e)) in
             sym (cond-false (is_in k keys) (Some (lookup keys ns k 0)) None (not_among g (order_at s i).reads k z))
         by false e = slot_of_telling g (order_at s i).reads ns (slots_at s i) k wanted.counted (slots_full s true i writes_here)
 
@@ -335,18 +293,18 @@ module _ (s : Ledger) (g i : ℕ) (ns : List ℕ) (wanted : Wanted s g i (length
     heard_at ks e n k = by (eqb n i) (λ q. eqb-true n i q) ∙ ap (λ l. cond (eqb n i) (hears l ns ((state_of s).heard i) k) ((state_of s).heard n k)) (sym e)
       where
         by : (b : Bool) → (b ≡ true → n ≡ i) →
-            cond (owns s.number k) None (slot_of (order_at s n).reads (cond b row (slots_at s n)) k) ≡ cond b (hears keys ns ((state_of s).heard i) k) ((state_of s).heard n k)
-        by true q = ap (λ m. cond (owns s.number k) None (slot_of (order_at s m).reads row k)) (q refl) ∙ heard_here k
+            cond (owns s.owner.number k) None (slot_of (order_at s n).reads (cond b row (slots_at s n)) k) ≡ cond b (hears keys ns ((state_of s).heard i) k) ((state_of s).heard n k)
+        by true q = ap (λ m. cond (owns s.owner.number k) None (slot_of (order_at s m).reads row k)) (q refl) ∙ heard_here k
         by false q = refl
 
     -- the machine's step
     hear_steps : (more : List Transaction) (soup : List Message) → Has soup (told g i ns) →
-        Act (log_of s' ++ more) (base (log_of s' ++ more)) s.number soup (hear (told g i ns)) (state_of s) (state_of s') []
+        Act (log_of s' ++ more) (base (log_of s' ++ more)) s.owner.number soup (hear (told g i ns)) (state_of s) (state_of s') []
     hear_steps more soup has =
         let os : List Transaction = log_of s' ++ more in
         let log : (j : ℕ) → j < count_of s.turns → at (log_of s' ++ more) j ≡ order_at s j =
         λ j l. at_log s' j (subst (λ t. j < count_of t) (sym turns_are) l) more ∙ ap (λ rs. transaction (get_or rs j [])) orders_are in
-        subst (λ t. Act (log_of s' ++ more) (base (log_of s' ++ more)) s.number soup (hear (told g i ns)) (state_of s) t [])
+        subst (λ t. Act (log_of s' ++ more) (base (log_of s' ++ more)) s.owner.number soup (hear (told g i ns)) (state_of s) t [])
         ((λ x. record {
           have = count_of s.turns;
           value = value_in s;
@@ -373,3 +331,6 @@ module _ (s : Ledger) (g i : ℕ) (ns : List ℕ) (wanted : Wanted s g i (length
           looked_is = looked_is;
           values_are = values_are;
         }
+
+pub heard_by : (s s' : Ledger) (g h i : ℕ) (ns : List ℕ) → g ≡ h → Heard s s' g i ns → Heard s s' h i ns
+heard_by s s' g h i ns e = subst (λ x. Heard s s' x i ns) e

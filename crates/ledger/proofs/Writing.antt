@@ -1,19 +1,22 @@
 -- What a write leaves is what the machine's write leaves.
-use Rattle.std.proofs.Common.{◌≡◌, ℕ, zero, suc, ◌%◌, ◌<◌, ◌≤◌, Bool, true, false, cond, not, ◌&&◌, ◌||◌, eqb, leb, List, [], ◌∷◌, ◌++◌, map, length, get_or, take, set, replicate, is_some, Some, None, vec_items, vec_len, filter, Option, unwrap_or, sym, refl, ap, ◌∙◌, subst, inl, inr, arith}
-use Rattle.std.proofs.lemmas.List.{length-map, length-set, length-take, get_or-set_same, get_or-set_other}
+use Rattle.std.proofs.Common.{◌≡◌, ℕ, zero, suc, ◌%◌, ◌<◌, ◌≤◌, Bool, true, false, cond, not, ◌&&◌, ◌||◌, eqb, leb, List, [], ◌∷◌, ◌++◌, map, length, get_or, set, replicate, is_some, Some, None, vec_items, vec_len, filter, Option, unwrap_or, sym, refl, ap, ◌∙◌, subst, inl, inr, arith}
+use Rattle.std.proofs.lemmas.List.{length-map, length-set, length-append, length-replicate, length-take-le, get_or-set_same, get_or-set_other}
 use Rattle.std.proofs.lemmas.Bool.{both_ways, not-true, and_parts, and_left, or_cases, leb-true, eqb-true, eq-eqb, ne_eqb, cases_eq, cond-true, cond-false, cond_both}
 use Rattle.orders.specs.Codec.{decoded}
 use Rattle.orders.specs.Contents.{Contents, contents_of, nothing}
-use Rattle.orders.specs.Meaning.{padded, transaction, meaning_or, outcome_of}
+use Rattle.orders.specs.Meaning.{transaction, meaning_or, run_from, outcome_of}
 use Rattle.orders.specs.Transaction.{Transaction, lookup, written, is_in}
 use Rattle.orders.specs.Valid.{rising}
+use Rattle.orders.specs.declared.instruction.Instruction.{Instruction}
+use Rattle.orders.specs.declared.instruction.Instruction.TheVariants.{Add, Subtract, Multiply, Divide, Set, SkipIfBelow, Write, Abort}
 use Rattle.orders.specs.declared.order.Order.{Order}
 use Rattle.orders.specs.declared.outcome.Outcome.{Outcome}
 use Rattle.orders.specs.declared.outcome.Outcome.TheVariants.{Nothing, Writes}
+use Rattle.orders.proofs.Transactions.{map_agreed, lookup_missing}
 use Rattle.protocol.specs.Log.{at, writes_in, effect}
 use Rattle.protocol.specs.House.{House, base, from_note, knows}
 use Rattle.protocol.specs.Machine.{Message, write, writes_its, put, Act}
-use Rattle.protocol.proofs.Standing.{map_agree, reads_from_reads_in}
+use Rattle.protocol.proofs.Standing.{reads_from_reads_in}
 use Rattle.rows.specs.Lists.{rows_of}
 use Rattle.turns.specs.Marks.{ready}
 use Rattle.turns.specs.State.{marks_of, done_of, count_of}
@@ -22,7 +25,28 @@ use Rattle.turns.specs.declared.turns.Turns.{Turns}
 use Rattle.ledger.specs.Own.{owns, marks_for, alike_marks, marked, slot_in, note_of, slot_of, known, given}
 use Rattle.ledger.specs.State.{contents_in, log_of, order_at, slots_at, looked_at, value_in, state_of, may_write, Wrote}
 use Rattle.ledger.specs.declared.ledger.Ledger.{Ledger}
+use Rattle.orders.proofs.Beside.{keys_few}
+use Rattle.ledger.proofs.Rising.{reads_rise}
 use Rattle.ledger.proofs.Ties.{at_log, marks_are, marked_within, own_reads_is, reads_is, writes_is, ready_to}
+
+-- an order that writes has a value for each of sixteen slots
+run_long : (n : ℕ) (is : List Instruction) (rs vs ws : List ℕ) → run_from n is rs vs ≡ Writes ws → length ws ≡ length vs
+unfolding run_from
+run_long n [] rs vs ws e = let q : vs ≡ ws = cc in ap length (sym q)
+run_long (suc n) (i ∷ is) rs vs ws e = run_long n is rs vs ws e
+run_long zero (Add a b c ∷ is) rs vs ws e = run_long 0 is _ vs ws e
+run_long zero (Subtract a b c ∷ is) rs vs ws e = run_long 0 is _ vs ws e
+run_long zero (Multiply a b c ∷ is) rs vs ws e = run_long 0 is _ vs ws e
+run_long zero (Divide a b c ∷ is) rs vs ws e = run_long 0 is _ vs ws e
+run_long zero (Set a n ∷ is) rs vs ws e = run_long 0 is _ vs ws e
+run_long zero (SkipIfBelow b c d ∷ is) rs vs ws e = run_long _ is rs vs ws e
+run_long zero (Write s b ∷ is) rs vs ws e = run_long 0 is rs _ ws e ∙ length-set vs s (get_or rs b 0)
+run_long zero (Abort ∷ is) rs vs ws e = let f : Nothing ≡ Writes ws = e in cc
+
+pub written_long : (c : Contents) (vs ws : List ℕ) → outcome_of c vs ≡ Writes ws → length ws ≡ 16
+written_long c vs ws e =
+    let xs = map (λ k. lookup c.reads vs k 0) c.writes in
+    run_long 0 c.code _ _ ws e ∙ length-take-le 16 (xs ++ replicate 16 0) (omega (arith, length-append xs (replicate 16 0), length-replicate {A = ℕ} 16 0))
 
 -- values beside keys
 rising_above : (low k : ℕ) (ks : List ℕ) → rising low ks ≡ true → is_in k ks ≡ true → low ≤ k
@@ -44,19 +68,10 @@ map_lookup low (x ∷ ks) (v ∷ vs) r l =
     let p = and_parts (leb low x) (rising (suc x) ks) r in
     let first : lookup (x ∷ ks) (v ∷ vs) x 0 ≡ v = cond-true (eqb x x) v (lookup ks vs x 0) (eq-eqb x x refl) in
     let others : map (λ k. lookup (x ∷ ks) (v ∷ vs) k 0) ks ≡ map (λ k. lookup ks vs k 0) ks =
-    map_agree (λ k. lookup (x ∷ ks) (v ∷ vs) k 0) (λ k. lookup ks vs k 0) ks
+    map_agreed ks (λ k. lookup (x ∷ ks) (v ∷ vs) k 0) (λ k. lookup ks vs k 0)
     (λ k e. let above : suc x ≤ k = rising_above (suc x) k ks p.1 e in cond-false (eqb k x) v (lookup ks vs k 0) (ne_eqb k x (λ q. omega arith))) in
     let rest : map (λ k. lookup ks vs k 0) ks ≡ vs = map_lookup (suc x) ks vs p.1 (omega arith) in
     λ i. first i ∷ (others ∙ rest) i
-
-lookup_outside : (ks vs : List ℕ) (k d : ℕ) → is_in k ks ≡ false → lookup ks vs k d ≡ d
-lookup_outside [] vs k d e = refl
-lookup_outside (x ∷ ks) [] k d e = refl
-lookup_outside (x ∷ ks) (v ∷ vs) k d e = by (eqb k x) e (lookup_outside ks vs k d)
-  where
-    by : (b : Bool) → (b || is_in k ks) ≡ false → (is_in k ks ≡ false → lookup ks vs k d ≡ d) → cond b v (lookup ks vs k d) ≡ d
-    by true e rest = absurd (both_ways true e refl)
-    by false e rest = rest e
 
 lookup_default : (ks vs : List ℕ) (k d e : ℕ) → is_in k ks ≡ true → length ks ≤ length vs → lookup ks vs k d ≡ lookup ks vs k e
 lookup_default [] vs k d e i l = absurd (both_ways false refl i)
@@ -67,23 +82,9 @@ lookup_default (x ∷ ks) (v ∷ vs) k d e i l = by (eqb k x) i (λ j. lookup_de
     by true i rest = refl
     by false i rest = rest i
 
-lookup_append : (ks vs ws : List ℕ) (k d : ℕ) → length ks ≤ length vs → lookup ks (vs ++ ws) k d ≡ lookup ks vs k d
-lookup_append [] vs ws k d l = refl
-lookup_append (x ∷ ks) [] ws k d l = absurd (omega arith)
-lookup_append (x ∷ ks) (v ∷ vs) ws k d l = ap (cond (eqb k x) v) (lookup_append ks vs ws k d (omega arith))
-
-lookup_take : (n : ℕ) (ks vs : List ℕ) (k d : ℕ) → length ks ≤ n → lookup ks (take n vs) k d ≡ lookup ks vs k d
-lookup_take n [] vs k d l = refl
-lookup_take zero (x ∷ ks) vs k d l = absurd (omega arith)
-lookup_take (suc n) (x ∷ ks) [] k d l = refl
-lookup_take (suc n) (x ∷ ks) (v ∷ vs) k d l = ap (cond (eqb k x) v) (lookup_take n ks vs k d (omega arith))
-
-lookup_padded : (n : ℕ) (ks vs : List ℕ) (k d : ℕ) → length ks ≤ length vs → length ks ≤ n → lookup ks (padded n vs) k d ≡ lookup ks vs k d
-lookup_padded n ks vs k d l few = lookup_take n ks (vs ++ replicate n 0) k d few ∙ lookup_append ks vs (replicate n 0) k d l
-
 lookup_or : (ks vs : List ℕ) (k d : ℕ) → length ks ≤ length vs → lookup ks vs k d ≡ cond (is_in k ks) (lookup ks vs k 0) d
 lookup_or ks vs k d l =
-    cond_both (is_in k ks) (lookup ks vs k 0) d (λ x. lookup ks vs k d ≡ x) (λ e. lookup_default ks vs k d 0 e l) (λ e. lookup_outside ks vs k d e)
+    cond_both (is_in k ks) (lookup ks vs k 0) d (λ x. lookup ks vs k d ≡ x) (λ e. lookup_default ks vs k d 0 e l) (λ e. lookup_missing ks vs k d e)
 
 -- what an order leaves, from the values read
 module _ (t : Transaction) (vs : List ℕ) (rises : rising 0 t.reads ≡ true) (long : length t.reads ≡ length vs) (k v : ℕ) where
@@ -97,11 +98,11 @@ module _ (t : Transaction) (vs : List ℕ) (rises : rising 0 t.reads ≡ true) (
       lookup t.writes ws k v ≡ cond (is_in k t.writes) (effect t (λ j. lookup t.reads vs j 0) k v) v
   left_by_writes ws is few =
       cond_both (is_in k t.writes) (effect t (λ j. lookup t.reads vs j 0) k v) v (λ x. lookup t.writes ws k v ≡ x)
-      (λ e. lookup_default t.writes ws k v (lookup t.reads vs k v) e few ∙ sym (effect_is (Writes ws) is)) (λ e. lookup_outside t.writes ws k v e)
+      (λ e. lookup_default t.writes ws k v (lookup t.reads vs k v) e few ∙ sym (effect_is (Writes ws) is)) (λ e. lookup_missing t.writes ws k v e)
 
-  pub left_by_nothing : t.outcome vs ≡ Nothing → length vs ≤ 32 →
-      cond (is_in k t.writes) (lookup t.reads (padded 32 vs) k v) v ≡ cond (is_in k t.writes) (effect t (λ j. lookup t.reads vs j 0) k v) v
-  left_by_nothing is few = ap (λ x. cond (is_in k t.writes) x v) (lookup_padded 32 t.reads vs k v (omega arith) (omega arith) ∙ sym (effect_is Nothing is))
+  pub left_by_nothing : t.outcome vs ≡ Nothing →
+      cond (is_in k t.writes) (lookup t.reads vs k v) v ≡ cond (is_in k t.writes) (effect t (λ j. lookup t.reads vs j 0) k v) v
+  left_by_nothing is = ap (λ x. cond (is_in k t.writes) x v) (sym (effect_is Nothing is))
 
 -- what is known of a key
 some_is : (v : Option ℕ) → is_some v ≡ true → v ≡ Some (unwrap_or v 0)
@@ -158,7 +159,7 @@ reading s i k = lookup (order_at s i).reads (given (slots_at s i)) k 0
 -- what stands in the house's own keys, as the order leaves it
 abbrev pub Leaves : Ledger → ℕ → List ℕ → Type 0
 Leaves s i values =
-    (k : ℕ) → owns s.number k ≡ true → slot_in values k ≡ cond (is_in k (order_at s i).writes) (effect (order_at s i) (reading s i) k (slot_in (vec_items s.values) k)) (slot_in (vec_items s.values) k)
+    (k : ℕ) → owns s.owner.number k ≡ true → slot_in values k ≡ cond (is_in k (order_at s i).writes) (effect (order_at s i) (reading s i) k (slot_in (vec_items s.values.own) k)) (slot_in (vec_items s.values.own) k)
 
 module _ (s : Ledger) (i : ℕ) (may : may_write s i ≡ true) where
   first_part : (marked true (marks_of s.turns i) ≡ true) × ((not (done_of s.turns i) && ((looked_at s i || not (marked false (marks_of s.turns i))) && (known (slots_at s i) && ready (marks_of s.turns) (done_of s.turns) i))) ≡ true)
@@ -192,11 +193,11 @@ module _ (s : Ledger) (i : ℕ) (may : may_write s i ≡ true) where
   -- there is a mark, so the order is well formed and has a slot for each key that it reads
   pub slots_long : length (order_at s i).reads ≡ length (given (slots_at s i))
   slots_long =
-      let some : eqb (length (marks_for s.number (order_at s i))) 0 ≡ false = some_mark true (marks_for s.number (order_at s i)) (ap (marked true) (sym (marks_are s i)) ∙ writes_here) in
-      sym (length-map (slots_at s i) (λ v. unwrap_or v 0) ∙ s.wide i ∙ cond-false (eqb (length (marks_for s.number (order_at s i))) 0) 0 (length (order_at s i).reads) some)
+      let some : eqb (length (marks_for s.owner.number (order_at s i))) 0 ≡ false = some_mark true (marks_for s.owner.number (order_at s i)) (ap (marked true) (sym (marks_are s i)) ∙ writes_here) in
+      sym (length-map (slots_at s i) (λ v. unwrap_or v 0) ∙ s.wide i ∙ cond-false (eqb (length (marks_for s.owner.number (order_at s i))) 0) 0 (length (order_at s i).reads) some)
 
   pub comes_to_contents : (vs : List ℕ) → (order_at s i).outcome vs ≡ outcome_of (contents_in (get_or (rows_of s.orders) i [])) vs
-  comes_to_contents vs = outcome_of_found s.number (decoded (get_or (rows_of s.orders) i [])) vs (ap (marked true) (sym (marks_are s i)) ∙ writes_here)
+  comes_to_contents vs = outcome_of_found s.owner.number (decoded (get_or (rows_of s.orders) i [])) vs (ap (marked true) (sym (marks_are s i)) ∙ writes_here)
 
   -- the order as the code has it
   module _ (r : Order) (is : contents_of r ≡ contents_in (get_or (rows_of s.orders) i [])) where
@@ -206,34 +207,34 @@ module _ (s : Ledger) (i : ℕ) (may : may_write s i ≡ true) where
     pub writes_of : (order_at s i).writes ≡ (contents_of r).writes
     writes_of = writes_are (decoded (get_or (rows_of s.orders) i [])) ∙ ap (λ c. c.writes) (sym is)
 
-    pub reads_rise : rising 0 (order_at s i).reads ≡ true
-    reads_rise = ap (rising 0) reads_of ∙ r.reads.rises
+    rises : rising 0 (order_at s i).reads ≡ true
+    rises = reads_rise (get_or (rows_of s.orders) i [])
 
-    pub reads_few : length (order_at s i).reads ≤ 16
-    reads_few = omega (arith, ap length reads_of, length-take r.reads.len r.reads.keys, r.reads.few)
+    pub slots_few : length (slots_at s i) ≤ 16
+    slots_few = omega (arith, slots_long, length-map (slots_at s i) (λ v. unwrap_or v 0), ap length reads_of, keys_few r.reads)
 
     pub comes_to : (vs : List ℕ) (o : Outcome) → outcome_of (contents_of r) vs ≡ o → o ≡ (order_at s i).outcome vs
     comes_to vs o e = sym (comes_to_contents vs ∙ ap (λ c. outcome_of c vs) (sym is) ∙ e)
 
     pub put_leaves : (ks ws values : List ℕ) → ks ≡ (contents_of r).writes → length ks ≤ length ws → outcome_of (contents_of r) (given (slots_at s i)) ≡ Writes ws →
-        ((k : ℕ) → owns s.number k ≡ true → slot_in values k ≡ lookup ks ws k (slot_in (vec_items s.values) k)) → Leaves s i values
+        ((k : ℕ) → owns s.owner.number k ≡ true → slot_in values k ≡ lookup ks ws k (slot_in (vec_items s.values.own) k)) → Leaves s i values
     put_leaves ks ws values keys few o puts k own =
         let same : ks ≡ (order_at s i).writes = keys ∙ sym writes_of in
-        puts k own ∙ ap (λ xs. lookup xs ws k (slot_in (vec_items s.values) k)) same
-        ∙ left_by_writes (order_at s i) (given (slots_at s i)) reads_rise slots_long k (slot_in (vec_items s.values) k) ws (sym (comes_to (given (slots_at s i)) (Writes ws) o)) (omega (arith, ap length same, few))
+        puts k own ∙ ap (λ xs. lookup xs ws k (slot_in (vec_items s.values.own) k)) same
+        ∙ left_by_writes (order_at s i) (given (slots_at s i)) rises slots_long k (slot_in (vec_items s.values.own) k) ws (sym (comes_to (given (slots_at s i)) (Writes ws) o)) (omega (arith, ap length same, few))
 
-    pub back_leaves : (ks js rs values : List ℕ) → ks ≡ (contents_of r).writes → js ≡ (contents_of r).reads → rs ≡ padded 32 (given (slots_at s i)) → outcome_of (contents_of r) (given (slots_at s i)) ≡ Nothing →
-        ((k : ℕ) → owns s.number k ≡ true → slot_in values k ≡ cond (is_in k ks) (lookup js rs k (slot_in (vec_items s.values) k)) (slot_in (vec_items s.values) k)) → Leaves s i values
+    pub back_leaves : (ks js rs values : List ℕ) → ks ≡ (contents_of r).writes → js ≡ (contents_of r).reads → rs ≡ given (slots_at s i) → outcome_of (contents_of r) (given (slots_at s i)) ≡ Nothing →
+        ((k : ℕ) → owns s.owner.number k ≡ true → slot_in values k ≡ cond (is_in k ks) (lookup js rs k (slot_in (vec_items s.values.own) k)) (slot_in (vec_items s.values.own) k)) → Leaves s i values
     back_leaves ks js rs values keys others registers o puts k own =
         let same : ks ≡ (order_at s i).writes = keys ∙ sym writes_of in
         let same' : js ≡ (order_at s i).reads = others ∙ sym reads_of in
         puts k own
-        ∙ (λ x. cond (is_in k (same x)) (lookup (same' x) (registers x) k (slot_in (vec_items s.values) k)) (slot_in (vec_items s.values) k))
-        ∙ left_by_nothing (order_at s i) (given (slots_at s i)) reads_rise slots_long k (slot_in (vec_items s.values) k) (sym (comes_to (given (slots_at s i)) Nothing o)) (omega (arith, reads_few, slots_long))
+        ∙ (λ x. cond (is_in k (same x)) (lookup (same' x) (registers x) k (slot_in (vec_items s.values.own) k)) (slot_in (vec_items s.values.own) k))
+        ∙ left_by_nothing (order_at s i) (given (slots_at s i)) rises slots_long k (slot_in (vec_items s.values.own) k) (sym (comes_to (given (slots_at s i)) Nothing o))
 
-module _ (s s' : Ledger) (i : ℕ) (may : may_write s i ≡ true) (number : s'.number ≡ s.number) (orders : rows_of s'.orders ≡ rows_of s.orders) (marks : s'.turns.marks ≡ s.turns.marks)
+module _ (s s' : Ledger) (i : ℕ) (may : may_write s i ≡ true) (number : s'.owner.number ≡ s.owner.number) (orders : rows_of s'.orders ≡ rows_of s.orders) (marks : s'.turns.marks ≡ s.turns.marks)
     (done : vec_items s'.turns.done ≡ set (vec_items s.turns.done) i true) (slots : rows_of s'.slots ≡ rows_of s.slots) (looked : vec_items s'.looked ≡ vec_items s.looked)
-    (leaves : Leaves s i (vec_items s'.values)) (more : List Transaction) where
+    (leaves : Leaves s i (vec_items s'.values.own)) (more : List Transaction) where
   os : List Transaction
   os = log_of s' ++ more
 
@@ -241,30 +242,30 @@ module _ (s s' : Ledger) (i : ℕ) (may : may_write s i ≡ true) (number : s'.n
   unfolding os
   log j l = ap (λ rows. at (map transaction rows ++ more) j) orders ∙ at_log s j l more
 
-  knows_read : (k : ℕ) → is_in k (at os i).reads ≡ true → knows os (λ j x. x % 16) s.number (state_of s) i k ≡ Some (reading s i k)
-  knows_read k e = by (owns s.number k) refl
+  knows_read : (k : ℕ) → is_in k (at os i).reads ≡ true → knows os (λ j x. x % 16) s.owner.number (state_of s) i k ≡ Some (reading s i k)
+  knows_read k e = by (owns s.owner.number k) refl
     where
       here : is_in k (order_at s i).reads ≡ true
       here = ap (λ t. is_in k t.reads) (sym (log i (in_log s i may))) ∙ e
 
-      noted : owns s.number k ≡ true → looked_at s i ≡ true
+      noted : owns s.owner.number k ≡ true → looked_at s i ≡ true
       noted o =
           looked_where_read s i may (sym (reads_is s os log i (in_log s i may))
-          ∙ reads_from_reads_in os (λ j x. x % 16) s.number i k (ap (λ b. b && owns s.number k) e ∙ o))
+          ∙ reads_from_reads_in os (λ j x. x % 16) s.owner.number i k (ap (λ b. b && owns s.owner.number k) e ∙ o))
 
-      by : (b : Bool) → owns s.number k ≡ b →
-          cond b (from_note os (λ j x. x % 16) s.number i ((state_of s).noted i) k) (cond b None (slot_of (order_at s i).reads (slots_at s i) k)) ≡ Some (reading s i k)
+      by : (b : Bool) → owns s.owner.number k ≡ b →
+          cond b (from_note os (λ j x. x % 16) s.owner.number i ((state_of s).noted i) k) (cond b None (slot_of (order_at s i).reads (slots_at s i) k)) ≡ Some (reading s i k)
       by true o =
-          ap (λ n. from_note os (λ j x. x % 16) s.number i n k) (cond-true (looked_at s i) (Some (note_of s.number (order_at s i).reads (slots_at s i))) None (noted o))
-          ∙ ap (λ ks. Some (lookup ks (note_of s.number (order_at s i).reads (slots_at s i)) k 0)) (own_reads_is s os log i (in_log s i may))
-          ∙ ap Some (note_lookup s.number (order_at s i).reads (slots_at s i) k o)
+          ap (λ n. from_note os (λ j x. x % 16) s.owner.number i n k) (cond-true (looked_at s i) (Some (note_of s.owner.number (order_at s i).reads (slots_at s i))) None (noted o))
+          ∙ ap (λ ks. Some (lookup ks (note_of s.owner.number (order_at s i).reads (slots_at s i)) k 0)) (own_reads_is s os log i (in_log s i may))
+          ∙ ap Some (note_lookup s.owner.number (order_at s i).reads (slots_at s i) k o)
       by false o =
           slot_known (order_at s i).reads (slots_at s i) k (omega (arith, slots_long s i may, length-map (slots_at s i) (λ v. unwrap_or v 0))) (last_part s i may).0 here
 
-  value_is : (k : ℕ) → value_in s' k ≡ cond (writes_in os (λ j x. x % 16) s.number i k) (effect (at os i) (reading s i) k (value_in s k)) (value_in s k)
+  value_is : (k : ℕ) → value_in s' k ≡ cond (writes_in os (λ j x. x % 16) s.owner.number i k) (effect (at os i) (reading s i) k (value_in s k)) (value_in s k)
   value_is k =
-      ap (λ h. cond (owns h k) (slot_in (vec_items s'.values) k) 0) number ∙ by (owns s.number k) refl
-      ∙ ap (λ t. cond (is_in k t.writes && owns s.number k) (effect t (reading s i) k (value_in s k)) (value_in s k)) (sym (log i (in_log s i may)))
+      ap (λ h. cond (owns h k) (slot_in (vec_items s'.values.own) k) 0) number ∙ by (owns s.owner.number k) refl
+      ∙ ap (λ t. cond (is_in k t.writes && owns s.owner.number k) (effect t (reading s i) k (value_in s k)) (value_in s k)) (sym (log i (in_log s i may)))
     where
       alone : (b : Bool) → (b && true) ≡ b
       alone true = refl
@@ -274,11 +275,11 @@ module _ (s s' : Ledger) (i : ℕ) (may : may_write s i ≡ true) (number : s'.n
       never true = refl
       never false = refl
 
-      by : (b : Bool) → owns s.number k ≡ b →
-          cond b (slot_in (vec_items s'.values) k) 0 ≡ cond (is_in k (order_at s i).writes && b) (effect (order_at s i) (reading s i) k (cond b (slot_in (vec_items s.values) k) 0)) (cond b (slot_in (vec_items s.values) k) 0)
+      by : (b : Bool) → owns s.owner.number k ≡ b →
+          cond b (slot_in (vec_items s'.values.own) k) 0 ≡ cond (is_in k (order_at s i).writes && b) (effect (order_at s i) (reading s i) k (cond b (slot_in (vec_items s.values.own) k) 0)) (cond b (slot_in (vec_items s.values.own) k) 0)
       by true o =
           leaves k o
-          ∙ ap (λ b. cond b (effect (order_at s i) (reading s i) k (slot_in (vec_items s.values) k)) (slot_in (vec_items s.values) k)) (sym (alone (is_in k (order_at s i).writes)))
+          ∙ ap (λ b. cond b (effect (order_at s i) (reading s i) k (slot_in (vec_items s.values.own) k)) (slot_in (vec_items s.values.own) k)) (sym (alone (is_in k (order_at s i).writes)))
       by false o = ap (λ b. cond b (effect (order_at s i) (reading s i) k 0) 0) (sym (never (is_in k (order_at s i).writes)))
 
   wrote_is : (j : ℕ) → put i true (state_of s).wrote j ≡ (state_of s').wrote j
@@ -315,17 +316,17 @@ module _ (s s' : Ledger) (i : ℕ) (may : may_write s i ≡ true) (number : s'.n
         copied = λ g. 0;
       }
 
-  pub act : (soup : List Message) → Act (log_of s' ++ more) (base (log_of s' ++ more)) s.number soup (write i) (state_of s) (state_of s') []
+  pub act : (soup : List Message) → Act (log_of s' ++ more) (base (log_of s' ++ more)) s.owner.number soup (write i) (state_of s) (state_of s') []
   unfolding os
   act soup =
-      subst (λ t. Act os (base os) s.number soup (write i) (state_of s) t []) state_is
+      subst (λ t. Act os (base os) s.owner.number soup (write i) (state_of s) t []) state_is
       (writes_its (state_of s) i (reading s i) (value_in s') (in_log s i may) (omega arith) (writes_is s os log i (in_log s i may) ∙ writes_here s i may) (and_left (done_of s.turns i) (marked true (marks_of s.turns i)) (undone s i may))
-      (λ r. ap is_some (cond-true (looked_at s i) (Some (note_of s.number (order_at s i).reads (slots_at s i))) None (looked_where_read s i may (sym (reads_is s os log i (in_log s i may)) ∙ r))))
+      (λ r. ap is_some (cond-true (looked_at s i) (Some (note_of s.owner.number (order_at s i).reads (slots_at s i))) None (looked_where_read s i may (sym (reads_is s os log i (in_log s i may)) ∙ r))))
       (ready_to s os log i (in_log s i may) (last_part s i may).1) (λ k e _. knows_read k e) value_is)
 
-pub wrote : (s s' : Ledger) (i : ℕ) (o : Outcome) → may_write s i ≡ true → o ≡ (order_at s i).outcome (given (slots_at s i)) → s'.number ≡ s.number → rows_of s'.orders ≡ rows_of s.orders →
+pub wrote : (s s' : Ledger) (i : ℕ) (o : Outcome) → may_write s i ≡ true → o ≡ (order_at s i).outcome (given (slots_at s i)) → s'.owner.number ≡ s.owner.number → rows_of s'.orders ≡ rows_of s.orders →
     s'.turns.marks ≡ s.turns.marks → vec_items s'.turns.done ≡ set (vec_items s.turns.done) i true → rows_of s'.slots ≡ rows_of s.slots → vec_items s'.looked ≡ vec_items s.looked →
-    Leaves s i (vec_items s'.values) → Wrote s s' i o
+    Leaves s i (vec_items s'.values.own) → Wrote s s' i o
 wrote s s' i o may comes number orders marks done slots looked leaves =
     record {
       may = may;
@@ -345,8 +346,8 @@ module _ (s : Ledger) (i : ℕ) (may : may_write s i ≡ true) (after : Turns) (
   pub count_still : count_of after ≡ count_of s.turns
   count_still = omega (arith, s.turns.done.ok.0, after.done.ok.0, ap length done, length-set (vec_items s.turns.done) i true)
 
-  pub matched_still : (j : ℕ) → alike_marks (marks_of after j) (marks_for s.number (order_at s j)) ≡ true
-  matched_still j = ap (λ ms. alike_marks ms (marks_for s.number (order_at s j))) (marks_still j) ∙ s.matched j
+  pub matched_still : (j : ℕ) → alike_marks (marks_of after j) (marks_for s.owner.number (order_at s j)) ≡ true
+  matched_still j = ap (λ ms. alike_marks ms (marks_for s.owner.number (order_at s j))) (marks_still j) ∙ s.matched j
 
   pub seen_still : (j : ℕ) → done_of after j ≡ true → marked false (marks_of after j) ≡ true → looked_at s j ≡ true
   seen_still j d m =

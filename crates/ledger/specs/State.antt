@@ -45,17 +45,17 @@ abbrev pub looked_at : Ledger → ℕ → Bool
 looked_at s i = slice_index_or (vec_items s.looked) i false
 
 abbrev pub value_in : Ledger → ℕ → ℕ
-value_in s k = cond (owns s.number k) (slice_index (vec_items s.values) (k / 16)) 0
+value_in s k = cond (owns s.owner.number k) (slice_index (vec_items s.values.own) (k / 16)) 0
 
 abbrev pub state_of : Ledger → House
 state_of s =
     record {
       have = count_of s.turns;
       value = value_in s;
-      noted = λ i. cond (looked_at s i) (Some (note_of s.number (order_at s i).reads (slots_at s i))) None;
+      noted = λ i. cond (looked_at s i) (Some (note_of s.owner.number (order_at s i).reads (slots_at s i))) None;
       synced = λ i. false;
       wrote = λ i. done_of s.turns i && marked true (marks_of s.turns i);
-      heard = λ i k. cond (owns s.number k) None (slot_of (order_at s i).reads (slots_at s i) k);
+      heard = λ i k. cond (owns s.owner.number k) None (slot_of (order_at s i).reads (slots_at s i) k);
       place = 0;
       saved = λ k. 0;
       copied = λ g. 0;
@@ -70,7 +70,7 @@ may_write s i =
     && ((looked_at s i || not (marked false (marks_of s.turns i))) && (known (slots_at s i) && ready (marks_of s.turns) (done_of s.turns) i)))
 
 abbrev pub Can : Deed → Ledger → Type 0
-Can d s = (t : House) × Act (log_of s) (base (log_of s)) s.number [] d (state_of s) t []
+Can d s = (t : House) × Act (log_of s) (base (log_of s)) s.owner.number [] d (state_of s) t []
 
 abbrev pub CanLook : Ledger → ℕ → Type 0
 CanLook s i = Can (look i) s
@@ -79,30 +79,30 @@ abbrev pub CanWrite : Ledger → ℕ → Type 0
 CanWrite s i = Can (write i) s
 
 abbrev pub Steps : Deed → Ledger → Ledger → Type 0
-Steps d s s' = (more : List Transaction) (soup : List Message) → Act (log_of s' ++ more) (base (log_of s' ++ more)) s.number soup d (state_of s) (state_of s') []
+Steps d s s' = (more : List Transaction) (soup : List Message) → Act (log_of s' ++ more) (base (log_of s' ++ more)) s.owner.number soup d (state_of s) (state_of s') []
 
 pub record Same (s s' : Ledger) : Type 0 where
-  pub same_number : s'.number ≡ s.number
+  pub same_number : s'.owner.number ≡ s.owner.number
   pub same_orders : rows_of s'.orders ≡ rows_of s.orders
   pub same_turns : turns.Same s.turns s'.turns
-  pub same_values : vec_items s'.values ≡ vec_items s.values
+  pub same_values : vec_items s'.values.own ≡ vec_items s.values.own
   pub same_slots : rows_of s'.slots ≡ rows_of s.slots
   pub same_looked : vec_items s'.looked ≡ vec_items s.looked
 
 -- an order more, with these bytes
 pub record Grown (s s' : Ledger) (bs : List ℕ) : Type 0 where
   pub steps : Steps grow s s'
-  pub number_is : s'.number ≡ s.number
+  pub number_is : s'.owner.number ≡ s.owner.number
   pub orders_are : rows_of s'.orders ≡ rows_of s.orders ++ bs ∷ []
-  pub marks_are : rows_of s'.turns.marks ≡ rows_of s.turns.marks ++ marks_for s.number (transaction bs) ∷ []
-  pub done_is : vec_items s'.turns.done ≡ vec_items s.turns.done ++ (length (marks_for s.number (transaction bs)) == 0) ∷ []
-  pub slots_are : rows_of s'.slots ≡ rows_of s.slots ++ replicate (slot_count s.number (transaction bs)) None ∷ []
+  pub marks_are : rows_of s'.turns.marks ≡ rows_of s.turns.marks ++ marks_for s.owner.number (transaction bs) ∷ []
+  pub done_is : vec_items s'.turns.done ≡ vec_items s.turns.done ++ (length (marks_for s.owner.number (transaction bs)) == 0) ∷ []
+  pub slots_are : rows_of s'.slots ≡ rows_of s.slots ++ replicate (slot_count s.owner.number (transaction bs)) None ∷ []
   pub looked_is : vec_items s'.looked ≡ vec_items s.looked ++ false ∷ []
-  pub values_are : vec_items s'.values ≡ vec_items s.values
+  pub values_are : vec_items s'.values.own ≡ vec_items s.values.own
 
 -- what a look or a write leaves alone
 pub record Kept (s s' : Ledger) : Type 0 where
-  pub number_is : s'.number ≡ s.number
+  pub number_is : s'.owner.number ≡ s.owner.number
   pub orders_are : rows_of s'.orders ≡ rows_of s.orders
   pub marks_are : s'.turns.marks ≡ s.turns.marks
 
@@ -110,12 +110,12 @@ pub record Kept (s s' : Ledger) : Type 0 where
 pub record Looked (s s' : Ledger) (i : ℕ) (noted : List ℕ) : Type 0 where
   pub may : may_look s i ≡ true
   pub steps : Steps (look i) s s'
-  pub notes : noted ≡ map (value_in s) (filter (owns s.number) (order_at s i).reads)
+  pub notes : noted ≡ map (value_in s) (filter (owns s.owner.number) (order_at s i).reads)
   pub kept : Kept s s'
   pub done_is : vec_items s'.turns.done ≡ cond (marked true (marks_of s.turns i)) (vec_items s.turns.done) (slice_set (vec_items s.turns.done) i true)
-  pub slots_are : rows_of s'.slots ≡ slice_set (rows_of s.slots) i (noting s.number (value_in s) (order_at s i).reads (slots_at s i))
+  pub slots_are : rows_of s'.slots ≡ slice_set (rows_of s.slots) i (noting s.owner.number (value_in s) (order_at s i).reads (slots_at s i))
   pub looked_is : vec_items s'.looked ≡ slice_set (vec_items s.looked) i true
-  pub values_are : vec_items s'.values ≡ vec_items s.values
+  pub values_are : vec_items s'.values.own ≡ vec_items s.values.own
 
 pub record Wrote (s s' : Ledger) (i : ℕ) (outcome : Outcome) : Type 0 where
   pub may : may_write s i ≡ true
@@ -133,18 +133,18 @@ pub record Wanted (s : Ledger) (g i n : ℕ) : Type 0 where
   pub counted : n ≡ own_count g (order_at s i).reads
 
 abbrev pub Needless : Ledger → (g i n : ℕ) → Type 0
-Needless s g i n = (g ≡ s.number) ⊎ ((marked true (marks_of s.turns i) ≡ false) ⊎ ((n ≡ 0) ⊎ (told_by g (order_at s i).reads (slots_at s i) ≡ true)))
+Needless s g i n = (g ≡ s.owner.number) ⊎ ((marked true (marks_of s.turns i) ≡ false) ⊎ ((n ≡ 0) ⊎ (told_by g (order_at s i).reads (slots_at s i) ≡ true)))
 
 pub record Heard (s s' : Ledger) (g i : ℕ) (vs : List ℕ) : Type 0 where
   pub wanted : Wanted s g i (length vs)
   pub needed : Needless s g i (length vs) → ⊥
   pub steps : (more : List Transaction) (soup : List Message) → Has soup (told g i vs) →
-      Act (log_of s' ++ more) (base (log_of s' ++ more)) s.number soup (hear (told g i vs)) (state_of s) (state_of s') []
+      Act (log_of s' ++ more) (base (log_of s' ++ more)) s.owner.number soup (hear (told g i vs)) (state_of s) (state_of s') []
   pub kept : Kept s s'
   pub turns_are : s'.turns ≡ s.turns
   pub slots_are : rows_of s'.slots ≡ slice_set (rows_of s.slots) i (telling g (order_at s i).reads vs (slots_at s i))
   pub looked_is : vec_items s'.looked ≡ vec_items s.looked
-  pub values_are : vec_items s'.values ≡ vec_items s.values
+  pub values_are : vec_items s'.values.own ≡ vec_items s.values.own
 
 -- the lowest number wins
 abbrev pub RefusesTold : Refusal → Ledger → (g i n : ℕ) → Type 0
@@ -162,11 +162,11 @@ RefusesOrder Known s bs = ⊥
 RefusesOrder NotYet s bs = ⊥
 RefusesOrder Full s bs = 4294967295 ≤ count_of s.turns
 RefusesOrder Memory s bs =
-    (count_of s.turns < 4294967295) × (Wanting s.orders (length bs) ⊎ (Wanting s.slots (slot_count s.number (transaction bs))
-    ⊎ ((vec_capacity s.looked < vec_len s.looked + 1) ⊎ turns.Wants s.turns (marks_for s.number (transaction bs)))))
+    (count_of s.turns < 4294967295) × (Wanting s.orders (length bs) ⊎ (Wanting s.slots (slot_count s.owner.number (transaction bs))
+    ⊎ ((vec_capacity s.looked < vec_len s.looked + 1) ⊎ turns.Wants s.turns (marks_for s.owner.number (transaction bs)))))
 
 pub record Fresh (s : Ledger) (h : ℕ) : Type 0 where
-  pub number_is : s.number ≡ h
+  pub number_is : s.owner.number ≡ h
   pub orders_are : rows_of s.orders ≡ []
   pub marks_are : rows_of s.turns.marks ≡ []
   pub done_is : vec_items s.turns.done ≡ []

@@ -1,12 +1,34 @@
-// What a house noted for an order.
-ghost use Rattle.std.specs.Prelude.{◌≤◌};
+// Values that a house noted for an order, or was told.
+ghost use Rattle.std.specs.Prelude.{◌≡◌, ◌<◌, [], ◌∷◌, ◌++◌, length};
+ghost use Rattle.ledger.specs.Notes.{values_of};
 
-mod edit;
+use bounded::Bounded;
 
-// The values of its keys that the order reads, in their order: at most sixteen.
-#[derive(Clone, Copy)]
+// Values of keys that the order reads, in their order: at most sixteen.
+#[derive(Clone, Copy, Debug, PartialEq, Eq)]
 pub struct Note {
-    values: [u32; 16],
-    len: usize,
-    ghost few: { len ≤ 16 },
+    values: Bounded<u32, 16>,
+}
+
+impl Note {
+    pub fn empty() -> Note
+        ensures { values_of result ≡ [] }
+    {
+        Note {
+            values: Bounded::new(),
+        }
+    }
+
+    // One value more; nothing where there are sixteen.
+    pub fn push(&mut self, value: u32)
+        ensures { length (values_of self.old) < 16 → values_of self.new ≡ values_of self.old ++ value ∷ [] }
+    {
+        let _ = self.values.push(value);
+    }
+
+    pub fn as_slice(&self) -> &[u32]
+        ensures { result.now ≡ values_of self.now }
+    {
+        self.values.as_slice()
+    }
 }

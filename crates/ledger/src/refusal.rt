@@ -4,26 +4,31 @@ ghost use Rattle.ledger.specs.Refusals.{number_of, of_turns};
 ghost use Rattle.ledger.specs.declared.refusal.Refusal.TheVariants.{Memory};
 
 use std::alloc::AllocError;
-use std::fmt;
+use thiserror::Error;
 use turns::TurnsError;
 
-#[derive(Clone, Copy)]
+#[derive(Clone, Copy, Debug, PartialEq, Eq, Error)]
 pub enum Refusal {
     // a house that does not exist, or another number of values than the order has there
+    #[error("no such house, or another number of values than the order has there")]
     Mismatch,
-    // a place beyond the log that the house has
+    #[error("beyond the log that the house has")]
     Beyond,
     // told already, or nothing that the house has to be told
+    #[error("told already, or nothing to be told")]
     Known,
     // it may not look or write yet, or there is nothing to look at or to write
+    #[error("not yet")]
     NotYet,
     // the log has as many orders as there are places
+    #[error("the log is full")]
     Full,
+    #[error("out of memory")]
     Memory,
 }
 
 impl Refusal {
-    // The number by which the format knows it; none for want of memory.
+    // The number by which the format knows it; none for want of memory, so no From.
     pub fn number(self) -> Option<u8>
         ensures { result ≡ number_of self }
     {
@@ -38,6 +43,7 @@ impl Refusal {
     }
 }
 
+// By hand, since clauses say which error it gives, and a derived one has no contract. The next one too.
 impl From<AllocError> for Refusal {
     ghost from_gives = { λ _ r. r ≡ Memory };
 
@@ -53,21 +59,6 @@ impl From<TurnsError> for Refusal {
         match e {
             TurnsError::Full => Refusal::Full,
             TurnsError::Memory => Refusal::Memory,
-        }
-    }
-}
-
-impl fmt::Display for Refusal {
-    fn fmt<W: fmt::Write>(&self, f: &mut fmt::Formatter<W>) -> fmt::Result {
-        match self {
-            Refusal::Mismatch => f.write_str(
-                "no such house, or another number of values than the order has there",
-            ),
-            Refusal::Beyond => f.write_str("beyond the log that the house has"),
-            Refusal::Known => f.write_str("told already, or nothing to be told"),
-            Refusal::NotYet => f.write_str("not yet"),
-            Refusal::Full => f.write_str("the log is full"),
-            Refusal::Memory => f.write_str("out of memory"),
         }
     }
 }

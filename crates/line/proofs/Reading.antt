@@ -1,6 +1,6 @@
 -- From what the code reads and writes at one end of the bytes to their orders.
 use Rattle.std.proofs.Common.{◌≡◌, ℕ, ◌+◌, ◌-◌, ◌*◌, ◌/◌, ◌%◌, ◌<◌, ◌≤◌, List, [], ◌∷◌, ◌++◌, length, get_or, take, drop, sym, ap, ◌∙◌, subst, arith}
-use Rattle.std.proofs.lemmas.List.{take_rest, drop-drop, length-take, length-drop, length_push, append_assoc, append-nil}
+use Rattle.std.proofs.lemmas.List.{take_rest, drop-drop, length-take, length-drop, append_assoc, append-nil}
 use Rattle.orders.specs.Codec.{two}
 use Rattle.orders.proofs.Encode.{two_bytes}
 use Rattle.line.specs.Frames.{frames, framed, Whole}
@@ -18,26 +18,29 @@ module _ (bs order rest : List ℕ) (n : ℕ) (long : 2 ≤ length bs) (is : n �
   rest_is : rest ≡ drop (n + 2) bs
   rest_is = back ∙ ap (drop n) (take_rest bs 2) ∙ drop-drop n 2 bs ∙ ap (λ m. drop m bs) (omega arith)
 
-  pub next_rest : rest ≡ drop (length order + 2) bs
-  next_rest = rest_is ∙ ap (λ m. drop (m + 2) bs) (sym order_long)
-
-  pub next_frames : frames bs ≡ order ∷ frames rest
-  next_frames = frames_at bs n long is fits ∙ ap (λ o. o ∷ frames (drop (n + 2) bs)) (sym order_is) ∙ ap (λ r. order ∷ frames r) (sym rest_is)
+  pub next_order : (frames bs ≡ order ∷ frames rest) × (rest ≡ drop (length order + 2) bs)
+  next_order = (
+    frames_at bs n long is fits ∙ ap (λ o. o ∷ frames (drop (n + 2) bs)) (sym order_is) ∙ ap (λ r. order ∷ frames r) (sym rest_is),
+    rest_is ∙ ap (λ m. drop (m + 2) bs) (sym order_long),
+  )
 
 pub frames_one : (o : List ℕ) → frames (framed o) ≡ o ∷ []
 frames_one o =
     ap frames (sym (append-nil (framed o))) ∙ frames_first o [] ∙ ap (λ os. o ∷ os) (frames_short [] (omega arith))
 
--- an order written behind whole ones
-module _ (bs header mid end o : List ℕ) (size : length o < 65536) (whole : Whole bs) (head : header ≡ (length o / 256 % 256) ∷ (length o % 256) ∷ []) (first : mid ≡ bs ++ header) (then : end ≡ mid ++ o) where
-  pub appended : end ≡ bs ++ framed o
-  appended = then ∙ ap (λ x. x ++ o) (first ∙ ap (λ h. bs ++ h) (two_bytes (length o) header size head)) ∙ append_assoc bs (two (length o)) o
+-- an order behind whole ones: the bytes, their orders, and that these are whole again
+pub record Appended (bs o end : List ℕ) : Type 0 where
+  pub bytes : end ≡ bs ++ framed o
+  pub orders : frames end ≡ frames bs ++ o ∷ []
+  pub whole : Whole end
 
-  pub appended_frames : frames end ≡ frames bs ++ o ∷ []
-  appended_frames = ap frames appended ∙ frames_append bs (framed o) whole ∙ ap (λ os. frames bs ++ os) (frames_one o)
-
-  pub appended_whole : Whole end
-  appended_whole = subst Whole (sym appended) (whole_append bs o whole)
-
-  pub appended_count : (n : ℕ) → n ≡ length (frames bs) → n + 1 ≡ length (frames end)
-  appended_count n e = ap (λ m. m + 1) e ∙ sym (ap length appended_frames ∙ length_push (frames bs) o)
+-- first its length was written, and then it
+pub appended : (bs header mid end o : List ℕ) → length o < 65536 → Whole bs → header ≡ (length o / 256 % 256) ∷ (length o % 256) ∷ [] → mid ≡ bs ++ header → end ≡ mid ++ o → Appended bs o end
+appended bs header mid end o size whole head first then =
+    let is : end ≡ bs ++ framed o =
+    then ∙ ap (λ x. x ++ o) (first ∙ ap (λ h. bs ++ h) (two_bytes (length o) header size head)) ∙ append_assoc bs (two (length o)) o in
+    record {
+      bytes = is;
+      orders = ap frames is ∙ frames_append bs (framed o) whole ∙ ap (λ os. frames bs ++ os) (frames_one o);
+      whole = subst Whole (sym is) (whole_append bs o whole);
+    }

@@ -1,5 +1,6 @@
 -- The orders of a log that comes in pieces, and the state that they leave.
-use Rattle.std.proofs.Common.{◌≡◌, ℕ, zero, suc, ◌+◌, ◌-◌, ◌/◌, ◌<◌, ◌≤◌, Bool, true, false, cond, List, [], ◌∷◌, ◌++◌, map, length, take, drop, is_some, sym, refl, ap, ◌∙◌, arith}
+use Rattle.std.proofs.Common.{◌≡◌, ℕ, suc, ◌+◌, ◌-◌, ◌/◌, ◌<◌, ◌≤◌, Bool, true, false, cond, List, [], ◌∷◌, ◌++◌, map, length, take, drop, is_some, sym, refl, ap, ◌∙◌, arith}
+use Rattle.std.proofs.Math.Seq.{take-nil}
 use Rattle.std.proofs.lemmas.List.{append_assoc, append-nil, length-append, length-drop}
 use Rattle.orders.specs.Codec.{decoded}
 use Rattle.orders.specs.Meaning.{transaction}
@@ -14,11 +15,7 @@ entries_past p bs h = let e : limit - p ≡ 0 = omega arith in ap (λ n. take n 
 
 pub entries_none : (p : ℕ) (bs : List ℕ) → frames bs ≡ [] → entries_from p bs ≡ []
 unfolding entries_from
-entries_none p bs e = ap (take (limit - p)) e ∙ nil (limit - p)
-  where
-    nil : (n : ℕ) → take {A = List ℕ} n [] ≡ []
-    nil zero = refl
-    nil (suc n) = refl
+entries_none p bs e = ap (take (limit - p)) e ∙ take-nil (limit - p)
 
 pub entries_fit : (p : ℕ) (bs : List ℕ) → extent (entries_from p bs) ≤ length bs
 unfolding entries_from
@@ -80,28 +77,35 @@ doing_append os more s =
     ∙ ap (λ n. (s.2 ++ malformed (next_place s) os) ++ malformed n more) (sym (place_after os s)) in
     λ i. (a i, b i, c i)
 
--- one order more: the next of the bytes bs is o, and then the bytes are cs; the state was s and is t
-module _ (p : ℕ) (bs cs o : List ℕ) (below : p < limit) (first : frames bs ≡ o ∷ frames cs) (cut : cs ≡ drop (length o + 2) bs) (s t : State) (does : t ≡ doing (o ∷ []) s) where
-  take_next : (n : ℕ) → p < n → take (n - p) (o ∷ frames cs) ≡ o ∷ take (n - (p + 1)) (frames cs)
-  take_next n h = let e : n - p ≡ suc (n - (p + 1)) = omega arith in ap (λ m. take m (o ∷ frames cs)) e
+-- what holds of a piece of the log before each order: the place p of that order, behind the bytes that were taken, and what is left of the piece, the state so far and the room for malformed orders.
+-- The piece comes to the state whole, and total of its bytes are taken
+pub record Going (whole : State) (total room p taken : ℕ) (bs : List ℕ) (s : State) : Type 0 where
+  pub at : p ≡ next_place s
+  pub fits : length s.2 + length bs / 2 ≤ room
+  pub does : doing (entries_from p bs) s ≡ whole
+  pub takes : taken + extent (entries_from p bs) ≡ total
 
-  entries_next : entries_from p bs ≡ o ∷ entries_from (p + 1) cs
+-- the next order of the bytes bs is o, and then the bytes are cs; the state was s and is t
+module _ (p q : ℕ) (bs cs o : List ℕ) (below : p < limit) (next : q ≡ p + 1) (first : frames bs ≡ o ∷ frames cs) (cut : cs ≡ drop (length o + 2) bs) (s t : State) (does : t ≡ doing (o ∷ []) s) where
+  take_next : (n : ℕ) → p < n → take (n - p) (o ∷ frames cs) ≡ o ∷ take (n - q) (frames cs)
+  take_next n h = let e : n - p ≡ suc (n - q) = omega arith in ap (λ m. take m (o ∷ frames cs)) e
+
+  entries_next : entries_from p bs ≡ o ∷ entries_from q cs
   unfolding entries_from
   entries_next = ap (take (limit - p)) first ∙ take_next limit below
 
   one_place : next_place t ≡ next_place s + 1
   one_place = ap next_place does ∙ place_after (o ∷ []) s
 
-  pub place_next : p ≡ next_place s → p + 1 ≡ next_place t
-  place_next e = omega (arith, one_place)
-
   -- each order takes two bytes at least
-  pub room_next : (cap : ℕ) → length s.2 + length bs / 2 ≤ cap → length t.2 + length cs / 2 ≤ cap
-  room_next cap h = omega (arith, one_place, ap (λ u. u.1) does, next_fits bs cs o first, ap length cut ∙ length-drop (length o + 2) bs)
+  pub going_on : (whole : State) (total room taken : ℕ) → Going whole total room p taken bs s → Going whole total room q (taken + (2 + length o)) cs t
+  going_on whole total room taken g = record {
+    at = omega (arith, one_place);
+    fits = omega (arith, one_place, ap (λ u. u.1) does, next_fits bs cs o first, ap length cut ∙ length-drop (length o + 2) bs);
+    does = ap (doing (entries_from q cs)) does ∙ sym (doing_append (o ∷ []) (entries_from q cs) s) ∙ ap (λ os. doing os s) (sym entries_next) ∙ g.does;
+    takes = omega (arith, ap extent entries_next ∙ extent_first o (entries_from q cs));
+  }
 
-  pub doing_next : (whole : State) → doing (entries_from p bs) s ≡ whole → doing (entries_from (p + 1) cs) t ≡ whole
-  doing_next whole inv = ap (doing (entries_from (p + 1) cs)) does ∙ sym (doing_append (o ∷ []) (entries_from (p + 1) cs) s) ∙ ap (λ os. doing os s) (sym entries_next) ∙ inv
-
-  pub extent_next : (whole total : ℕ) → length bs + whole ≡ total + extent (entries_from p bs) → length cs + whole ≡ total + extent (entries_from (p + 1) cs)
-  extent_next whole total inv =
-      omega (arith, ap extent entries_next ∙ extent_first o (entries_from (p + 1) cs), next_fits bs cs o first, ap length cut ∙ length-drop (length o + 2) bs)
+-- no order is left
+pub going_end : (whole : State) (total room p taken : ℕ) (bs : List ℕ) (s : State) → entries_from p bs ≡ [] → Going whole total room p taken bs s → (s ≡ whole) × (taken ≡ total)
+going_end whole total room p taken bs s none g = (doing_none s ∙ ap (λ os. doing os s) (sym none) ∙ g.does, omega (arith, ap extent none))

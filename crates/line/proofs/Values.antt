@@ -1,7 +1,7 @@
 -- Values read from and written to some keys, one key at a time.
 use Rattle.std.proofs.Common.{◌≡◌, ℕ, zero, suc, ◌+◌, ◌<◌, ◌≤◌, true, cond, eqb, leb, List, [], ◌∷◌, length, get_or, drop, set, replicate, sym, refl, ap, ◌∙◌, ⊎_elim, add-one, arith}
-use Rattle.std.proofs.lemmas.List.{drop_more, get_or-set_same, get_or-set_other}
-use Rattle.std.proofs.lemmas.Bool.{and_parts, leb-true, ne_eqb, eq-eqb, cases_eq}
+use Rattle.std.proofs.lemmas.List.{at_drop_more, get_or-set_same, get_or-set_other}
+use Rattle.std.proofs.lemmas.Bool.{and_parts, leb-true, cond-true, cond-false, ne_eqb, eq-eqb, cases_eq}
 use Rattle.orders.specs.Transaction.{lookup}
 use Rattle.orders.specs.Valid.{rising}
 
@@ -24,28 +24,30 @@ rising_behind low i [] h r = absurd (omega arith)
 rising_behind low zero (x ∷ xs) h r = (and_parts (leb low x) (rising (suc x) xs) r).1
 rising_behind low (suc i) (x ∷ xs) h r = rising_behind (suc x) i xs (omega arith) (and_parts (leb low x) (rising (suc x) xs) r).1
 
--- one key more, overwritten
-module _ (ks vs items : List ℕ) (i j : ℕ) (in_keys : i < length ks) (in_values : i < length vs) (is : j ≡ get_or ks i 0) (in_items : j < length items) (rises : rising 0 ks ≡ true) (k : ℕ) where
-  first_write : lookup (drop i ks) (drop i vs) k (get_or items k 0) ≡ cond (eqb k j) (get_or vs i 0) (lookup (drop (i + 1) ks) (drop (i + 1) vs) k (get_or items k 0))
+-- one key more, overwritten: the key j at index i, by the value v
+module _ (ks vs items : List ℕ) (i j v : ℕ) (in_keys : i < length ks) (in_values : i < length vs) (key : j ≡ get_or ks i 0) (value : v ≡ get_or vs i 0) (in_items : j < length items) (rises : rising 0 ks ≡ true) (k : ℕ) where
+  -- what the later keys leave, where d stands
+  abbrev later : ℕ → ℕ
+  later d = lookup (drop (i + 1) ks) (drop (i + 1) vs) k d
+
+  first_write : lookup (drop i ks) (drop i vs) k (get_or items k 0) ≡ cond (eqb k j) v (later (get_or items k 0))
   first_write =
-      ap (λ xs. lookup xs (drop i vs) k (get_or items k 0)) (drop_more ks i 0 in_keys)
-      ∙ ap (λ ys. lookup (get_or ks i 0 ∷ drop (i + 1) ks) ys k (get_or items k 0)) (drop_more vs i 0 in_values)
-      ∙ ap (λ x. cond (eqb k x) (get_or vs i 0) (lookup (drop (i + 1) ks) (drop (i + 1) vs) k (get_or items k 0))) (sym is)
+      at_drop_more (λ xs. lookup xs (drop i vs) k (get_or items k 0)) ks i 0 in_keys
+      ∙ at_drop_more (λ ys. lookup (get_or ks i 0 ∷ drop (i + 1) ks) ys k (get_or items k 0)) vs i 0 in_values
+      ∙ cc
 
   behind : rising (suc j) (drop (i + 1) ks) ≡ true
-  behind = ap (λ x. rising (suc x) (drop (i + 1) ks)) is ∙ ap (λ n. rising (suc (get_or ks i 0)) (drop n ks)) (add-one i) ∙ rising_behind 0 i ks in_keys rises
+  behind = ap (λ x. rising (suc x) (drop (i + 1) ks)) key ∙ ap (λ n. rising (suc (get_or ks i 0)) (drop n ks)) (add-one i) ∙ rising_behind 0 i ks in_keys rises
 
-  pub write_more : lookup (drop (i + 1) ks) (drop (i + 1) vs) k (get_or (set items j (get_or vs i 0)) k 0) ≡ lookup (drop i ks) (drop i vs) k (get_or items k 0)
-  write_more = ⊎_elim same other (cases_eq k j) ∙ sym first_write
+  pub write_more : (n : ℕ) → n ≡ i + 1 → lookup (drop n ks) (drop n vs) k (get_or (set items j v) k 0) ≡ lookup (drop i ks) (drop i vs) k (get_or items k 0)
+  write_more n more = ap (λ m. lookup (drop m ks) (drop m vs) k (get_or (set items j v) k 0)) more ∙ ⊎_elim same other (cases_eq k j) ∙ sym first_write
     where
-      same : k ≡ j → lookup (drop (i + 1) ks) (drop (i + 1) vs) k (get_or (set items j (get_or vs i 0)) k 0) ≡ cond (eqb k j) (get_or vs i 0) (lookup (drop (i + 1) ks) (drop (i + 1) vs) k (get_or items k 0))
+      same : k ≡ j → later (get_or (set items j v) k 0) ≡ cond (eqb k j) v (later (get_or items k 0))
       same e =
-          absent (suc j) k (drop (i + 1) ks) (drop (i + 1) vs) (get_or (set items j (get_or vs i 0)) k 0) (omega arith) behind
-          ∙ ap (λ n. get_or (set items j (get_or vs i 0)) n 0) e
-          ∙ get_or-set_same items j (get_or vs i 0) 0 in_items
-          ∙ sym (ap (λ b. cond b (get_or vs i 0) (lookup (drop (i + 1) ks) (drop (i + 1) vs) k (get_or items k 0))) (eq-eqb k j e))
+          absent (suc j) k (drop (i + 1) ks) (drop (i + 1) vs) (get_or (set items j v) k 0) (omega arith) behind
+          ∙ ap (λ n. get_or (set items j v) n 0) e
+          ∙ get_or-set_same items j v 0 in_items
+          ∙ sym (cond-true _ _ _ (eq-eqb k j e))
 
-      other : (k ≡ j → ⊥) → lookup (drop (i + 1) ks) (drop (i + 1) vs) k (get_or (set items j (get_or vs i 0)) k 0) ≡ cond (eqb k j) (get_or vs i 0) (lookup (drop (i + 1) ks) (drop (i + 1) vs) k (get_or items k 0))
-      other ne =
-          ap (λ v. lookup (drop (i + 1) ks) (drop (i + 1) vs) k v) (get_or-set_other items j k (get_or vs i 0) 0 ne)
-          ∙ sym (ap (λ b. cond b (get_or vs i 0) (lookup (drop (i + 1) ks) (drop (i + 1) vs) k (get_or items k 0))) (ne_eqb k j ne))
+      other : (k ≡ j → ⊥) → later (get_or (set items j v) k 0) ≡ cond (eqb k j) v (later (get_or items k 0))
+      other ne = ap later (get_or-set_other items j k v 0 ne) ∙ sym (cond-false _ _ _ (ne_eqb k j ne))

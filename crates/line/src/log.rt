@@ -5,7 +5,6 @@ ghost use Rattle.line.specs.Frames.{frames, Whole};
 mod append;
 mod error;
 
-pub use append::LIMIT;
 pub use error::LogError;
 
 // Whole orders, each behind its length, at most 4,294,967,295 of them.

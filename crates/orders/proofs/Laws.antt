@@ -3,7 +3,7 @@ use Rattle.std.proofs.Common.{◌≡◌, ℕ, zero, suc, ◌+◌, ◌*◌, ◌/�
 use Rattle.std.specs.List.{flat_map, AllByRecursion}
 use Rattle.std.proofs.ByRecursion.{All-from_get_or}
 use Rattle.std.proofs.lemmas.List.{append_assoc, append-nil}
-use Rattle.std.proofs.lemmas.Option.{MatchOption-at_some}
+use Rattle.std.proofs.lemmas.Option.{MatchOption-at_some, IfSome_then}
 use Rattle.std.proofs.lemmas.Bool.{and_parts, and_from, cond-true, cond_both, eqb-true}
 use Rattle.orders.specs.Codec.{two, instruction_bytes, counted, encoded}
 use Rattle.orders.specs.Codec.{Read, and_then, prepend, many, key_in, three_in, set_in, write_in, any_in, only, instruction_in, list_in, keys_in, code_in, ended, decoded}
@@ -16,10 +16,6 @@ use Rattle.orders.specs.declared.instruction.Instruction.TheVariants.{Add, Subtr
 -- Whatever is found, P holds of it.
 abbrev Finds : {X : Type 0} → (X → Type 0) → Option X → Type 0
 Finds P o = IfSome o P
-
-finds_weaker : {X : Type 0} (P Q : X → Type 0) (o : Option X) → ((x : X) → P x → Q x) → Finds P o → Finds Q o
-finds_weaker P Q None f h = tt
-finds_weaker P Q (Some x) f h = f x h
 
 finds_then : {X Y : Type 0} (P : X → Type 0) (Q : Y → Type 0) (o : Option X) (k : X → Option Y) → ((x : X) → P x → Finds Q (k x)) → Finds P o → Finds Q (and_then o k)
 finds_then P Q None k f h = tt
@@ -67,7 +63,7 @@ module _ {X : Type 0} (one : List ℕ → Read X) (f : X → List ℕ) (good : X
     list_finds most [] b = tt
     list_finds most (n ∷ bs) b =
         cond_both (leb n most) (many one n bs) None (Finds (Front (counted f) (λ xs. (leb (length xs) most ≡ true) × AllByRecursion good xs) (n ∷ bs)))
-        (λ e. finds_weaker _ _ (many one n bs) (λ p h. (cc, (cc, h.1.1), h.2)) (many_finds n bs b.1))
+        (λ e. IfSome_then (many one n bs) (many_finds n bs b.1) (λ p h. (cc, (cc, h.1.1), h.2)))
         (λ e. tt)
 
 -- keys
@@ -139,6 +135,26 @@ any_finds (k ∷ bs) h =
 instruction_finds : (w : ℕ) (bs : List ℕ) → Bytes bs → Finds (Front instruction_bytes (λ i. fits w i ≡ true) bs) (instruction_in w bs)
 instruction_finds w bs b = finds_only _ _ (fits w) (any_in bs) (λ p h e. (h.0, e, h.2)) (any_finds bs b)
 
+-- what is read fits, whatever the bytes are
+any_read : {X : Type 0} (o : Option X) → Finds (λ _. Unit {0}) o
+any_read None = tt
+any_read (Some x) = tt
+
+instructions_fit : (w n : ℕ) (bs : List ℕ) → Finds (λ p. all_fit w p.0 ≡ true) (many (instruction_in w) n bs)
+unfolding many
+instructions_fit w zero bs = refl
+instructions_fit w (suc n) bs =
+    finds_then (λ p. fits w p.0 ≡ true) _ (instruction_in w bs) _ (λ p h.
+    finds_prepend (λ q. all_fit w q.0 ≡ true) _ (p.0 ∷ []) (many (instruction_in w) n p.1) (λ q k. and_from _ _ h k) (instructions_fit w n p.1))
+    (finds_only (λ _. Unit {0}) _ (fits w) (any_in bs) (λ p h e. e) (any_read (any_in bs)))
+
+pub code_fits : (w : ℕ) (bs : List ℕ) (is : List Instruction) (rest : List ℕ) → code_in w bs ≡ Some (is, rest) → all_fit w is ≡ true
+code_fits w bs is rest e = MatchOption-at_some (Unit {0}) (λ p. all_fit w p.0 ≡ true) (is, rest) e (found bs)
+  where
+    found : (cs : List ℕ) → Finds (λ p. all_fit w p.0 ≡ true) (code_in w cs)
+    found [] = tt
+    found (n ∷ cs) = cond_both (leb n 64) (many (instruction_in w) n cs) None (Finds (λ p. all_fit w p.0 ≡ true)) (λ _. instructions_fit w n cs) (λ _. tt)
+
 all_from_all_fit : (w : ℕ) (is : List Instruction) → all_fit w is ≡ true → AllByRecursion (λ i. fits w i ≡ true) is
 all_from_all_fit w [] h = tt
 all_from_all_fit w (i ∷ is) h = let p = and_parts (fits w i) (all_fit w is) h in (p.0, all_from_all_fit w is p.1)
@@ -167,8 +183,8 @@ code_reads w is h =
 
 code_finds : (w : ℕ) (bs : List ℕ) → Bytes bs → Finds (Front (counted instruction_bytes) (λ is. program w is ≡ true) bs) (code_in w bs)
 code_finds w bs b =
-    finds_weaker _ _ (code_in w bs) (λ p h. (h.0, and_from _ _ h.1.0 (all_fit_from_all w p.0 h.1.1), h.2))
-    (list_finds (instruction_in w) instruction_bytes _ (instruction_finds w) 64 bs b)
+    IfSome_then (code_in w bs) (list_finds (instruction_in w) instruction_bytes _ (instruction_finds w) 64 bs b)
+    (λ p h. (h.0, and_from _ _ h.1.0 (all_fit_from_all w p.0 h.1.1), h.2))
 
 pub decodes_all : DecodesAll
 unfolding decoded

@@ -1,29 +1,24 @@
--- Laws of rising keys and of instructions that fit, one of a list at a time.
-use Rattle.std.proofs.Common.{◌≡◌, ℕ, suc, ◌+◌, ◌<◌, ◌≤◌, true, false, ◌&&◌, leb, List, length, get_or, drop, sym, ap, ◌∙◌, add-one}
-use Rattle.std.proofs.lemmas.List.{at_drop_more}
-use Rattle.std.proofs.lemmas.Bool.{le-leb, lt-leb}
-use Rattle.orders.specs.Valid.{rising, fits, all_fit}
-use Rattle.orders.specs.declared.instruction.Instruction.{Instruction}
+-- Keys rise where each is below the next.
+use Rattle.std.proofs.Common.{◌≡◌, ℕ, zero, suc, ◌<◌, ◌≤◌, Bool, true, false, ◌&&◌, leb, ltb, List, [], ◌∷◌, length, get_or, refl, ap, ◌∙◌, sym, arith, add-one}
+use Rattle.std.specs.List.{IsAllAdjacentAnswer}
+use Rattle.std.proofs.Math.Bool.{and-false}
+use Rattle.std.proofs.lemmas.Bool.{le-leb, lt-leb, ltb-true, ltb-false, and_from}
+use Rattle.orders.specs.Valid.{rising}
 
-module _ (low i k : ℕ) (ks : List ℕ) (within : i < length ks) (is : k ≡ get_or ks i 0) where
-  rising_at : rising low (drop i ks) ≡ (leb low k && rising (k + 1) (drop (i + 1) ks))
-  rising_at =
-      let d : rising low (drop i ks) ≡ (leb low (get_or ks i 0) && rising (suc (get_or ks i 0)) (drop (i + 1) ks)) = at_drop_more (rising low) ks i 0 within in
-      rw (add-one k) (rw is d)
+rises_on : (low : ℕ) (ks : List ℕ) → (1 ≤ length ks → low ≤ get_or ks 0 0) → ((k : ℕ) → suc k < length ks → ltb (get_or ks k 0) (get_or ks (suc k) 0) ≡ true) → rising low ks ≡ true
+rises_on low [] first next = refl
+rises_on low (x ∷ ks) first next =
+    and_from (leb low x) (rising (suc x) ks) (le-leb low x (first (omega arith)))
+    (rises_on (suc x) ks (λ h. omega (arith, ltb-true x (get_or ks 0 0) (next 0 (omega arith)))) (λ k h. next (suc k) (omega arith)))
 
-  pub rising_on : low ≤ k → rising (k + 1) (drop (i + 1) ks) ≡ rising low (drop i ks)
-  rising_on h = sym (rising_at ∙ ap (λ b. b && rising (k + 1) (drop (i + 1) ks)) (le-leb low k h))
+rises_off : (low : ℕ) (ks : List ℕ) (k : ℕ) → suc k < length ks → ltb (get_or ks k 0) (get_or ks (suc k) 0) ≡ false → rising low ks ≡ false
+rises_off low [] k h e = absurd (omega arith)
+rises_off low (x ∷ []) k h e = absurd (omega arith)
+rises_off low (x ∷ y ∷ ks) zero h e =
+    ap (λ b. leb low x && (b && rising (suc y) ks)) (lt-leb (suc x) y (omega (arith, ltb-false x y e))) ∙ and-false (leb low x)
+rises_off low (x ∷ y ∷ ks) (suc k) h e = ap (λ b. leb low x && b) (rises_off (suc x) (y ∷ ks) k (omega arith) e) ∙ and-false (leb low x)
 
-  pub rising_off : k < low → rising low (drop i ks) ≡ false
-  rising_off h = rising_at ∙ ap (λ b. b && rising (k + 1) (drop (i + 1) ks)) (lt-leb low k h)
-
--- laws of instructions that fit, one instruction of a list at a time
-module _ (w i : ℕ) (is : List Instruction) (d : Instruction) (within : i < length is) where
-  fit_at : all_fit w (drop i is) ≡ (fits w (get_or is i d) && all_fit w (drop (i + 1) is))
-  fit_at = at_drop_more (all_fit w) is i d within
-
-  pub fit_on : true ≡ fits w (get_or is i d) → all_fit w (drop (i + 1) is) ≡ all_fit w (drop i is)
-  fit_on h = ap (λ b. b && all_fit w (drop (i + 1) is)) h ∙ sym fit_at
-
-  pub fit_off : false ≡ fits w (get_or is i d) → all_fit w (drop i is) ≡ false
-  fit_off h = fit_at ∙ ap (λ b. b && all_fit w (drop (i + 1) is)) (sym h)
+pub rising_from_adjacent : (ks : List ℕ) (r : Bool) → IsAllAdjacentAnswer (λ x y b. b ≡ ltb x y) ks r → r ≡ rising 0 ks
+rising_from_adjacent ks true h = sym (rises_on 0 ks (λ l. omega arith) (λ k l. ap (λ j. ltb (get_or ks k 0) (get_or ks j 0)) (sym (add-one k)) ∙ sym (h k 0 (omega arith))))
+rising_from_adjacent ks false h =
+    sym (rises_off 0 ks h.0 (omega (arith, h.1)) (ap (λ j. ltb (get_or ks h.0 0) (get_or ks j 0)) (sym (add-one h.0)) ∙ sym (h.2 0)))

@@ -4,7 +4,8 @@
 --   nothing      of an order that does nothing
 --   valid        whether an order with these contents exists
 -- Assumes nothing.
-use Rattle.std.specs.Prelude.{ℕ, Bool, ◌&&◌, List, [], length, take, nat_le}
+use Rattle.std.specs.Prelude.{ℕ, Bool, ◌&&◌, List, [], length, nat_le}
+use Rattle.bounded.specs.Items.{items_of}
 use Rattle.orders.specs.Valid.{rising, all_fit}
 use Rattle.orders.specs.declared.instruction.Instruction.{Instruction}
 use Rattle.orders.specs.declared.order.KeySet.{KeySet}
@@ -16,10 +17,10 @@ pub record Contents : Type 0 where
   pub code : List Instruction
 
 abbrev pub keys_of : KeySet → List ℕ
-keys_of s = take s.len s.keys
+keys_of s = items_of s.keys
 
 abbrev pub contents_of : Order → Contents
-contents_of o = record { reads = keys_of o.reads; writes = keys_of o.writes; code = take o.len o.code }
+contents_of o = record { reads = keys_of o.reads; writes = keys_of o.writes; code = items_of o.code }
 
 abbrev pub nothing : Contents
 nothing = record { reads = []; writes = []; code = [] }

@@ -4,6 +4,7 @@
 --   all_fit w is     each of the instructions fits
 -- Assumes nothing.
 use Rattle.std.specs.Prelude.{ℕ, suc, Bool, true, ◌&&◌, List, [], ◌∷◌, nat_le, nat_lt}
+use Rattle.std.specs.List.{list_all}
 use Rattle.orders.specs.declared.instruction.Instruction.{Instruction}
 use Rattle.orders.specs.declared.instruction.Instruction.TheVariants.{Add, Subtract, Multiply, Divide, Set, SkipIfBelow, Write, Abort}
 
@@ -25,5 +26,4 @@ fits w (Write s b) = nat_lt s w && nat_lt b 32
 fits w Abort = true
 
 abbrev pub all_fit : ℕ → List Instruction → Bool
-all_fit w [] = true
-all_fit w (i ∷ is) = fits w i && all_fit w is
+all_fit w is = list_all (fits w) is

@@ -1,5 +1,5 @@
 // One instruction of an order, over its thirty-two registers.
-#[derive(Clone, Copy)]
+#[derive(Clone, Copy, Debug, Default, PartialEq, Eq)]
 pub enum Instruction {
     // register `to` becomes the sum, cut to 32 bits
     Add { to: u8, left: u8, right: u8 },
@@ -16,5 +16,6 @@ pub enum Instruction {
     // register `from` will be written to the key at `slot` of the write set
     Write { slot: u8, from: u8 },
     // the order writes nothing, and no further instruction is done
+    #[default]
     Abort,
 }

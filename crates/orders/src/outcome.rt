@@ -1,5 +1,5 @@
-// What an order comes to, worked out from the values that it has read.
-#[derive(Clone, Copy)]
+// What an order comes to, worked out from the values that it has read. No Option: later outcomes are further cases.
+#[derive(Clone, Copy, Debug, PartialEq, Eq)]
 pub enum Outcome {
     // it writes no key
     Nothing,

@@ -11,7 +11,8 @@ use Rattle.protocol.specs.Machine.{Message, told, asks, copied, Deed, put, hears
 use Rattle.protocol.specs.Machine.{grows, looks, writes_its, syncs, tells, asks_for, hears_told, hears_copied, checks, says, drops, crashes}
 use Rattle.protocol.specs.Promise.{quiet}
 use Rattle.protocol.proofs.Invariant.{shadow, Settled, Good, Beyond, Inv}
-use Rattle.protocol.proofs.Standing.{map_agree, lookup_map, reads_in_from_own_reads, reads_from_reads_in, writes_from_writes_in, shadow_start, shadow_written, shadow_own, stood_suc}
+use Rattle.orders.proofs.Transactions.{map_agreed}
+use Rattle.protocol.proofs.Standing.{lookup_map, reads_in_from_own_reads, reads_from_reads_in, writes_from_writes_in, shadow_start, shadow_written, shadow_own, stood_suc}
 use Rattle.protocol.proofs.Slots.{value_from_some, done_before, done_writer, done_by_write, cases_done, undone, cases_done_reader}
 use Rattle.protocol.proofs.Slots.{conflict_read_write, conflict_write_write, conflict_write_read, value_at, knows_right}
 
@@ -250,7 +251,7 @@ module _ (os : List Transaction) (p : Plan) (first : ℕ → ℕ) (sound : Sound
         noted_right = λ j vs e. put_cases i (Some (map s.value (own_reads os p.own h i))) s.noted j (λ o. o ≡ Some vs → vs ≡ map (stood os first j) (own_reads os p.own h j))
             (λ q y.
             let a : vs ≡ map s.value (own_reads os p.own h i) = cc in
-            a ∙ map_agree s.value (stood os first i) (own_reads os p.own h i) look_value ∙ ap (λ x. map (stood os first x) (own_reads os p.own h x)) (sym q))
+            a ∙ map_agreed (own_reads os p.own h i) s.value (stood os first i) look_value ∙ ap (λ x. map (stood os first x) (own_reads os p.own h x)) (sym q))
             (λ _ y. good.noted_right j vs y) e;
         heard_right = good.heard_right;
         read_first = λ j l k b r w d. noted_or_behind j (good.read_first j l k b r w (sym (same_writer after_look l k refl w) ∙ d));

@@ -7,7 +7,8 @@ use Rattle.protocol.specs.House.{done, Plan, Sound}
 use Rattle.protocol.specs.Machine.{Net}
 use Rattle.protocol.specs.Promise.{Phase, looking, writing, Task, Waits, for_turn, for_word, before, ReadsRight, EndsRight, AlikeAs, NoRing, NoGap, ToldStays, BaseSound}
 use Rattle.protocol.proofs.Invariant.{Inv}
-use Rattle.protocol.proofs.Standing.{map_agree, none_writes_beyond, stood_serial, stood_end, shadow_own}
+use Rattle.orders.proofs.Transactions.{map_agreed}
+use Rattle.protocol.proofs.Standing.{none_writes_beyond, stood_serial, stood_end, shadow_own}
 use Rattle.protocol.proofs.Slots.{value_at, knows_right}
 use Rattle.protocol.proofs.Preserved.{inv_run, inv_start}
 
@@ -85,7 +86,7 @@ base_sound os = record {
   housed = λ i k. omega arith;
   moves = λ i k. inl refl;
   enough = λ i h k v f g _ same.
-      ap (λ vs. leaves (at os i) vs k (cond (is_in k (at os i).reads) (f k) v)) (map_agree f g (at os i).reads (λ j l. same j l refl))
+      ap (λ vs. leaves (at os i) vs k (cond (is_in k (at os i).reads) (f k) v)) (map_agreed (at os i).reads f g (λ j l. same j l refl))
       ∙ ap (leaves (at os i) (map g (at os i).reads) k) (cond_agree (is_in k (at os i).reads) (f k) (g k) v (λ l. same k l refl));
   passes = λ h i s e. e;
 }

@@ -3,8 +3,7 @@ use Rattle.std.proofs.Common.{◌≡◌, ℕ, zero, suc, ◌<◌, ◌≤◌, Boo
 use Rattle.std.proofs.lemmas.List.{take_all, get_or_past}
 use Rattle.std.proofs.lemmas.Bool.{both_ways, and_parts, and_from, and_cases, or_cases, or_parts, or_left, or_right, cond-true, cond-false, cond_both, cases_lt, eqb-true, eq-eqb}
 use Rattle.orders.specs.Transaction.{Transaction, lookup, written, is_in, after, serial, idle}
-use Rattle.orders.specs.declared.outcome.Outcome.{Outcome}
-use Rattle.orders.specs.declared.outcome.Outcome.TheVariants.{Nothing, Writes}
+use Rattle.orders.proofs.Transactions.{written_outside}
 use Rattle.protocol.specs.Log.{at, stood, some, reads_in, writes_in, own_reads, own_writes, reads, writes}
 use Rattle.protocol.specs.House.{Plan, Sound}
 use Rattle.protocol.proofs.Invariant.{shadow}
@@ -41,13 +40,6 @@ kept_is_in test k (x ∷ ks) e =
           | inr q ↦ there (rest q)
         ]
 
-pub map_agree : (f g : ℕ → ℕ) (ks : List ℕ) → ((k : ℕ) → is_in k ks ≡ true → f k ≡ g k) → map f ks ≡ map g ks
-map_agree f g [] h = refl
-map_agree f g (x ∷ ks) h =
-    let a : f x ≡ g x = h x (or_left (eqb x x) (is_in x ks) (eq-eqb x x refl)) in
-    let b : map f ks ≡ map g ks = map_agree f g ks (λ k e. h k (or_right (eqb k x) (is_in k ks) e)) in
-    cc
-
 pub lookup_map : (f : ℕ → ℕ) (ks : List ℕ) (k d : ℕ) → is_in k ks ≡ true → lookup ks (map f ks) k d ≡ f k
 lookup_map f [] k d e = let z : ◌≡◌ {A = ℕ} 0 1 = cc in absurd (omega arith)
 lookup_map f (x ∷ ks) k d e =
@@ -73,17 +65,6 @@ module _ (os : List Transaction) (own : ℕ → ℕ → ℕ) (h i k : ℕ) where
       some_from_is_in k (own_writes os own h i) (is_in_kept (λ x. eqb (own (suc i) x) h) k (at os i).writes p.0 p.1)
 
 -- what an order leaves alone
-lookup_outside : (ws vs : List ℕ) (k d : ℕ) → is_in k ws ≡ false → lookup ws vs k d ≡ d
-lookup_outside [] vs k d e = refl
-lookup_outside (x ∷ ws) [] k d e = refl
-lookup_outside (x ∷ ws) (v ∷ vs) k d e =
-    let p = or_parts (eqb k x) (is_in k ws) e in
-    cond-false (eqb k x) v (lookup ws vs k d) p.0 ∙ lookup_outside ws vs k d p.1
-
-written_outside : (ws : List ℕ) (o : Outcome) (k d : ℕ) → is_in k ws ≡ false → written ws o k d ≡ d
-written_outside ws Nothing k d e = refl
-written_outside ws (Writes vs) k d e = lookup_outside ws vs k d e
-
 pub after_outside : (t : Transaction) (f : ℕ → ℕ) (k : ℕ) → is_in k t.writes ≡ false → after t f k ≡ f k
 unfolding after
 after_outside t f k e = written_outside t.writes (t.outcome (map f t.reads)) k (f k) e

@@ -5,86 +5,62 @@ ghost use Rattle.protocol.specs.Cases.{TableHolds};
 ghost use Rattle.protocol.specs.Promise.{Always, BaseAgrees, BaseSound, Longer, Promise, ReadsRight, EndsRight, AlikeAs, NeverStuck, Nearby, NoRing, NoGap, ToldStays};
 
 // All of the below at once: what the programs' contracts cite.
-pub fn every_run_keeps_the_promise() -> u8
+pub fn every_run_keeps_the_promise()
     ensures { Always Promise }
-{
-    0
-}
+{}
 
 // The plan of today, key k in house k mod 16, is sound.
-pub fn the_base_is_sound() -> u8
+pub fn the_base_is_sound()
     ensures { BaseSound }
-{
-    0
-}
+{}
 
 // Whatever is noted, heard or sent for an order, and all that a write is given, is the serial value at its place.
-pub fn reads_are_right() -> u8
+pub fn reads_are_right()
     ensures { Always ReadsRight }
-{
-    0
-}
+{}
 
 // Where all is done, every key has what doing all orders serially leaves.
-pub fn ends_right() -> u8
+pub fn ends_right()
     ensures { Always EndsRight }
-{
-    0
-}
+{}
 
 // Two runs over one log never say different things of an order.
-pub fn runs_are_alike() -> u8
+pub fn runs_are_alike()
     ensures { Always AlikeAs }
-{
-    0
-}
+{}
 
 // A finite run of calm deeds, without a message from before, does everything everywhere.
-pub fn never_stuck() -> u8
+pub fn never_stuck()
     ensures { Always NeverStuck }
-{
-    0
-}
+{}
 
 // While anything is undone, a look or a write is at most growing, syncing, telling and hearing away.
-pub fn work_is_near() -> u8
+pub fn work_is_near()
     ensures { Always Nearby }
-{
-    0
-}
+{}
 
 // There is no set of tasks in which each waits for another of the set.
-pub fn nobody_waits_in_a_ring() -> u8
+pub fn nobody_waits_in_a_ring()
     ensures { Always NoRing }
-{
-    0
-}
+{}
 
 // Of the orders that write a key in a house, those done there are the first so many.
-pub fn no_gap() -> u8
+pub fn no_gap()
     ensures { Always NoGap }
-{
-    0
-}
+{}
 
 // As long as some house has not copied beyond an order, what was told of it can be told again, the very same.
-pub fn what_was_told_stays() -> u8
+pub fn what_was_told_stays()
     ensures { Always ToldStays }
-{
-    0
-}
+{}
 
 // The log only grows: a run over a log is a run over every longer one.
-pub fn the_log_may_grow() -> u8
+pub fn the_log_may_grow()
     ensures longer { Longer }
     ensures base { BaseAgrees }
-{
-    0
-}
+{}
 
 // What a house may do next, in worked cases: each row of the table holds.
-pub fn the_cases_hold() -> u8
+pub fn the_cases_hold()
     ensures { TableHolds }
-{
-    0
-}
+{}

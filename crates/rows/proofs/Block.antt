@@ -1,7 +1,7 @@
 -- The rows of a block: what a push and an overwrite leave, and where a row lies.
 use Rattle.std.proofs.Common.{◌≡◌, ℕ, ◌+◌, ◌-◌, ◌<◌, ◌≤◌, true, List, [], ◌∷◌, ◌++◌, length, get_or, take, drop, set, vec_items, vec_len, Vec, sym, ap, ◌∙◌, subst, arith}
 use Rattle.std.specs.declared.alloc.Global.{Global}
-use Rattle.std.proofs.lemmas.List.{get_or_default, get_or_past, length-append, length-drop, length-take, set_past, set-get_or}
+use Rattle.std.proofs.lemmas.List.{get_or_past, length-append, length-drop, length-take, set_past, set-get_or}
 use Rattle.rows.specs.Ends.{rising, parted}
 use Rattle.rows.specs.Lists.{rows_of}
 use Rattle.rows.specs.declared.table.Rows.{Rows}
@@ -37,23 +37,19 @@ module _ {T : Type 0} (r : Rows T) where
   no_row_set i row past = set_past (rows_of r) i row (omega (arith, length_rows))
 
   -- the row at i, from its start up to its end
-  module _ {i start end : ℕ} (from : start ≡ get_or (0 ∷ vec_items r.ends) i 0) (to : end ≡ get_or (vec_items r.ends) i end) (within : i < vec_len r.ends) where
+  module _ {i start end : ℕ} (within : i < vec_len r.ends) (from : start ≡ get_or (0 ∷ vec_items r.ends) i 0) (till : end ≡ get_or (vec_items r.ends) i 0) where
     inside : i < length (vec_items r.ends)
     inside = omega (arith, r.ends.ok.0)
 
-    till : end ≡ get_or (vec_items r.ends) i 0
-    till = to ∙ get_or_default (vec_items r.ends) i end 0 inside
-
-    pub start_to_end : start ≤ end
-    start_to_end = omega (arith, from, till, start_before_end 0 (vec_items r.ends) (length (vec_items r.items)) i rises inside)
-
-    pub end_in_block : end ≤ length (vec_items r.items)
-    end_in_block = omega (arith, till, end_within 0 (vec_items r.ends) (length (vec_items r.items)) i rises inside)
+    pub row_bounds : (start ≤ end) × (end ≤ vec_len r.items)
+    row_bounds = (
+      omega (arith, from, till, start_before_end 0 (vec_items r.ends) (length (vec_items r.items)) i rises inside),
+      omega (arith, till, r.items.ok.0, end_within 0 (vec_items r.ends) (length (vec_items r.items)) i rises inside),
+    )
 
     pub row_is : get_or (rows_of r) i [] ≡ take (end - start) (drop start (vec_items r.items))
     row_is =
         let row = get_or_parted 0 (vec_items r.ends) (vec_items r.items) i inside in
-        let e = till in
         cc
 
     pub rows_set : (at : ℕ) (item : T) → at < end - start →

@@ -40,10 +40,6 @@ rising_push low (e ∷ es) n m r h =
     let p = rising_parts low e es n r in
     and_from (leb low e) (rising e (es ++ m ∷ []) m) (le-leb low e p.0) (rising_push e es n m p.1 h)
 
-pub parted_none : {A : Type 0} (low : ℕ) (es : List ℕ) (xs : List A) → es ≡ [] → parted low es xs ≡ []
-unfolding parted
-parted_none low es xs none = rw none
-
 pub length_parted : {A : Type 0} (low : ℕ) (es : List ℕ) (xs : List A) → length (parted low es xs) ≡ length es
 unfolding parted
 length_parted low [] xs = refl

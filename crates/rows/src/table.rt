@@ -4,6 +4,7 @@ ghost use Rattle.rows.specs.Ends.{rising};
 
 mod edit;
 
+// One block for all rows, and not a `Vec` for each: a row costs no allocation of its own.
 #[derive(Drop)]
 pub struct Rows<T> {
     items: Vec<T>,

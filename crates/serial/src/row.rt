@@ -1,31 +1,16 @@
 // The rows that are printed. They are spelled here, since there can be 65,536 of them and `writeln!` is slow.
-ghost use Rattle.std.specs.Prelude.{◌≡◌, ◌+◌, ◌≤◌, [], ◌∷◌, ◌++◌, length, drop, decimal};
+ghost use Rattle.std.specs.Prelude.{◌≡◌, [], ◌∷◌, ◌++◌, decimal};
 
-// Puts a key, a space, its value and a line break at the end of the row: where they start.
-pub fn spell(key: u16, value: u32, row: &mut [u8; 17]) -> usize
-    ensures within { result ≤ 17 }
-    ensures is { drop result row.new ≡ decimal key ++ 32 ∷ (decimal value ++ 10 ∷ []) }
-{
-    row[16] = b'\n';
-    let at = put(row, 16, value) - 1;
-    row[at] = b' ';
-    put(row, at, u32::from(key))
-}
+use itoa::write_digits;
 
-// Puts a number before an end: where it starts.
-fn put(row: &mut [u8; 17], end: usize, number: u32) -> usize
-    requires { (length (decimal number) ≤ end) × (end ≤ 17) }
-    ensures at { result + length (decimal number) ≡ end }
-    ensures is { drop result row.new ≡ decimal number ++ drop end row.old }
+// A key, a space, its value and a line break, at the end of the room that is lent.
+#[tactic(auto, using(crate::proofs::Rows::value_long, crate::proofs::Rows::key_long))]
+pub fn spell<'a>(key: u16, value: u32, room: &'a mut [u8; 17]) -> &'a [u8]
+    ensures { result.now ≡ decimal key ++ 32 ∷ (decimal value ++ 10 ∷ []) }
 {
-    let mut at = end;
-    let mut left = number;
-    while left >= 10 {
-        at -= 1;
-        row[at] = b'0' + (left % 10) as u8;
-        left /= 10;
-    }
-    at -= 1;
-    row[at] = b'0' + left as u8;
-    at
+    room[16] = b'\n';
+    let space = write_digits(u64::from(value), room, 16) - 1;
+    room[space] = b' ';
+    let start = write_digits(u64::from(key), room, space);
+    &room[start..]
 }

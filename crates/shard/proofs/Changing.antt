@@ -187,9 +187,6 @@ module _ (s s' : Ledger) (i : ℕ) (woken : List ℕ) (marks_are : marks_of s'.t
         | inr d ↦ d
       ])
 
-  look_after : (j : ℕ) → (j ≡ i → ⊥) → looked_at s' j ≡ looked_at s j
-  look_after = looked_is
-
   looked_after : (j : ℕ) → (j ≡ i → ⊥) → looked s' j ≡ looked s j
   looked_after j ne = let a = looked_is j ne in let b = marked_is false j in λ x. a x || not (b x)
 

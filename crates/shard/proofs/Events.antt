@@ -1,5 +1,5 @@
 -- How the list of tasks changes with each event.
-use Rattle.std.proofs.Common.{◌≡◌, ℕ, zero, suc, ◌+◌, ◌<◌, ◌≤◌, Bool, true, false, cond, not, ◌&&◌, ◌||◌, eqb, leb, ◌⊎◌, List, [], ◌∷◌, ◌++◌, length, get_or, set, replicate, is_some, None, vec_items, deque_len, deque_capacity, filter, Option, sym, refl, ap, ◌∙◌, inl, inr, arith}
+use Rattle.std.proofs.Common.{◌≡◌, ℕ, zero, suc, ◌+◌, ◌<◌, ◌≤◌, Bool, true, false, cond, not, ◌&&◌, ◌||◌, eqb, leb, ◌⊎◌, List, [], ◌∷◌, ◌++◌, length, get_or, set, replicate, is_some, None, vec_items, filter, Option, sym, refl, ap, ◌∙◌, inl, inr, arith}
 use Rattle.std.proofs.lemmas.List.{get_or_past, get_or-set_same, get_or-set_other}
 use Rattle.std.proofs.lemmas.Bool.{both_ways, not-true, and_from, and_left, and_right, or_left, cases_Bool, cases_eq, cases_lt, cond-true, cond-false, eq-eqb, ne_eqb, le-leb}
 use Rattle.orders.specs.Transaction.{is_in}
@@ -10,6 +10,7 @@ use Rattle.rows.specs.Lists.{rows_of}
 use Rattle.turns.specs.Marks.{put, ready, clear, conflicts}
 use Rattle.turns.specs.State.{marks_of, done_of, count_of, Wakes, Waking}
 use Rattle.turns.specs.declared.entry.Mark.{Mark}
+use Rattle.turns.specs.declared.turns.Turns.{Turns}
 use Rattle.ledger.specs.Own.{owns, own_count, marks_for, marked, slot_count, known, noting, telling, told}
 use Rattle.ledger.specs.State.{order_at, value_in, looked_at, slots_at, may_look, may_write, Same, Grown, Looked, Wrote, Heard}
 use Rattle.ledger.specs.declared.ledger.Ledger.{Ledger}
@@ -17,8 +18,7 @@ use Rattle.turns.proofs.Looking.{clear_none}
 use Rattle.ledger.proofs.Asking.{slots_wide}
 use Rattle.ledger.proofs.Growing.{others_stay}
 use Rattle.ledger.proofs.Ties.{marked_within}
-use Rattle.shard.specs.State.{Becomes, Ends, Cramped}
-use Rattle.shard.specs.declared.house.House.{House}
+use Rattle.shard.specs.State.{Becomes, Ends}
 use Rattle.shard.specs.Tasks.{place_of, has, distinct, live, may_do, tasks_at, places}
 use Rattle.shard.specs.declared.task.Task.{Task}
 use Rattle.shard.specs.declared.task.Task.TheVariants.{Look, Write}
@@ -54,23 +54,12 @@ module _ (s s' : Ledger) (raw raw' fresh : List Task) (change : Change s s' fres
 
 -- a ledger in which nothing differs
 module _ (s s' : Ledger) (same : Same s s') where
-  same_marks : marks_of s'.turns ≡ marks_of s.turns
-  same_marks = ap (λ rows i. get_or rows i []) same.same_turns.0
-
   same_done : done_of s'.turns ≡ done_of s.turns
   same_done = ap (λ xs i. get_or xs i false) same.same_turns.1
 
   pub same_live : (t : Task) → live s' t ≡ live s t
   same_live (Look i) = ap (λ xs. not (get_or xs i false)) same.same_looked
   same_live (Write i) = ap (λ d. not (d i)) same_done
-
-  pub same_may : (t : Task) → may_do s' t ≡ may_do s t
-  same_may (Look i) =
-      let a = same_marks in let b = same_done in let c = same.same_looked in
-      λ x. marked false (a x i) && (not (get_or (c x) i false) && ready (a x) (b x) i)
-  same_may (Write i) =
-      let a = same_marks in let b = same_done in let c = same.same_looked in let d = same.same_slots in
-      λ x. marked true (a x i) && (not (b x i) && ((get_or (c x) i false || not (marked false (a x i))) && (known (get_or (d x) i []) && ready (a x) (b x) i)))
 
   pub same_kept : (ts : List Task) → filter (live s') ts ≡ filter (live s) ts
   same_kept [] = refl
@@ -126,7 +115,7 @@ module _ (s s' : Ledger) (i : ℕ) (vs : List ℕ) (look : Looked s s' i vs) whe
   looked_else j ne = get_or_else (vec_items s.looked) (vec_items s'.looked) i j true false look.looked_is ne
 
   slots_else : (j : ℕ) → (j ≡ i → ⊥) → slots_at s' j ≡ slots_at s j
-  slots_else j ne = get_or_else (rows_of s.slots) (rows_of s'.slots) i j (noting s.number (value_in s) (order_at s i).reads (slots_at s i)) [] look.slots_are ne
+  slots_else j ne = get_or_else (rows_of s.slots) (rows_of s'.slots) i j (noting s.owner.number (value_in s) (order_at s i).reads (slots_at s i)) [] look.slots_are ne
 
   no_look : may_look s' i ≡ false
   no_look = elim (cases_Bool (may_look s' i)) [ inl m ↦ absurd (both_ways (looked_at s' i) (look_parts s' i m).1 looked_here) | inr m ↦ m ]
@@ -338,16 +327,16 @@ module _ (s s' : Ledger) (bs : List ℕ) (grown : Grown s s' bs) where
   n = count_of s.turns
 
   marks_other : (j : ℕ) → (j ≡ n → ⊥) → marks_of s'.turns j ≡ marks_of s.turns j
-  marks_other = others_stay (rows_of s.turns.marks) (rows_of s'.turns.marks) (marks_for s.number (transaction bs)) [] n (sym s.turns.counted) grown.marks_are
+  marks_other = others_stay (rows_of s.turns.marks) (rows_of s'.turns.marks) (marks_for s.owner.number (transaction bs)) [] n (sym s.turns.counted) grown.marks_are
 
   done_other : (j : ℕ) → (j ≡ n → ⊥) → done_of s'.turns j ≡ done_of s.turns j
-  done_other = others_stay (vec_items s.turns.done) (vec_items s'.turns.done) (eqb (length (marks_for s.number (transaction bs))) 0) false n (sym s.turns.done.ok.0) grown.done_is
+  done_other = others_stay (vec_items s.turns.done) (vec_items s'.turns.done) (eqb (length (marks_for s.owner.number (transaction bs))) 0) false n (sym s.turns.done.ok.0) grown.done_is
 
   looked_other : (j : ℕ) → (j ≡ n → ⊥) → looked_at s' j ≡ looked_at s j
   looked_other = others_stay (vec_items s.looked) (vec_items s'.looked) false false n (sym s.looked.ok.0 ∙ s.noted) grown.looked_is
 
   slots_other : (j : ℕ) → (j ≡ n → ⊥) → slots_at s' j ≡ slots_at s j
-  slots_other = others_stay (rows_of s.slots) (rows_of s'.slots) (replicate (slot_count s.number (transaction bs)) None) [] n s.slotted grown.slots_are
+  slots_other = others_stay (rows_of s.slots) (rows_of s'.slots) (replicate (slot_count s.owner.number (transaction bs)) None) [] n s.slotted grown.slots_are
 
   beyond : (j : ℕ) → n ≤ j → marks_of s.turns j ≡ []
   beyond j l = get_or_past (rows_of s.turns.marks) j [] (omega (arith, s.turns.counted))
@@ -385,6 +374,6 @@ module _ (s s' : Ledger) (bs : List ℕ) (grown : Grown s s' bs) where
       }
 
 -- no room for those that are woken: somebody is, or there is no room at all
-pub woken_some : (h : House) (i : ℕ) (woken : List ℕ) (n : ℕ) → n ≡ length woken → Wakes h.ledger.turns i woken → deque_capacity h.tasks < deque_len h.tasks + n → Waking h.ledger.turns i ⊎ Cramped h
-woken_some h i [] n e wake l = inr (omega arith)
-woken_some h i (j ∷ js) n e wake l = inl (j, sym (wake.are j) ∙ or_left (eqb j j) (is_in j js) (eq-eqb j j refl))
+pub woken_some : (t : Turns) (room len i : ℕ) (woken : List ℕ) (n : ℕ) → n ≡ length woken → Wakes t i woken → room < len + n → Waking t i ⊎ (room < len + 1)
+woken_some t room len i [] n e wake l = inr (omega arith)
+woken_some t room len i (j ∷ js) n e wake l = inl (j, sym (wake.are j) ∙ or_left (eqb j j) (is_in j js) (eq-eqb j j refl))

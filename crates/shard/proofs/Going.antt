@@ -3,7 +3,7 @@ use Rattle.std.proofs.Common.{◌≡◌, ℕ, zero, suc, ◌+◌, ◌<◌, ◌�
 use Rattle.std.specs.Option.{option_map}
 use Rattle.std.specs.Slice.{IsGetResult}
 use Rattle.std.proofs.lemmas.List.{append-nil, append_assoc, length_push, drop_all, drop_more, take_all, take_at, take-take}
-use Rattle.std.proofs.lemmas.Bool.{and_parts, both_ways, cases_Bool, eq-eqb, eqb-true, not-true, not-false, or_left, or_right}
+use Rattle.std.proofs.lemmas.Bool.{and_parts, both_ways, cases_Bool, not-true, not-false, or_left, or_right}
 use Rattle.ledger.specs.declared.ledger.Ledger.{Ledger}
 use Rattle.ledger.specs.declared.refusal.Refusal.{Refusal}
 use Rattle.ledger.specs.declared.refusal.Refusal.TheVariants.{Mismatch, Beyond, Known, NotYet, Full, Memory}
@@ -12,20 +12,11 @@ use Rattle.shard.specs.Tasks.{same_task, has, distinct, live, may_do}
 use Rattle.shard.specs.declared.house.House.{House}
 use Rattle.shard.specs.declared.task.Task.{Task}
 use Rattle.shard.specs.declared.task.Task.TheVariants.{Look, Write}
+use Rattle.shard.proofs.Listing.{same_refl, same_true}
 use Rattle.shard.proofs.Kept.{kept_by_not_first, kept_more, kept_no_more, kept_all}
 
-pub same_task_is : (t u : Task) → same_task t u ≡ true → t ≡ u
-same_task_is (Look i) (Look j) e = ap Look (eqb-true i j e)
-same_task_is (Look i) (Write j) e = let z : ◌≡◌ {A = ℕ} 0 1 = cc in absurd (omega arith)
-same_task_is (Write i) (Look j) e = let z : ◌≡◌ {A = ℕ} 0 1 = cc in absurd (omega arith)
-same_task_is (Write i) (Write j) e = ap Write (eqb-true i j e)
-
-pub task_is_itself : (t : Task) → same_task t t ≡ true
-task_is_itself (Look i) = eq-eqb i i refl
-task_is_itself (Write i) = eq-eqb i i refl
-
 pub has_first : (t : Task) (ts : List Task) → has t (t ∷ ts) ≡ true
-has_first t ts = or_left (same_task t t) (has t ts) (task_is_itself t)
+has_first t ts = or_left (same_task t t) (has t ts) (same_refl t)
 
 -- the task in front, as it was read
 pub front_is : (ts : List Task) (o : Option (Bor Task)) (t : Task) → IsGetResult ts 0 0 o → option_map (λ x. x.now) o ≡ Some t → ts ≡ t ∷ drop 1 ts
@@ -34,18 +25,13 @@ front_is [] (Some x) t i e = absurd (omega (arith, i.3.0))
 front_is (u ∷ ts) None t i e = let z : ◌≡◌ {A = ℕ} 0 1 = cc in absurd (omega arith)
 front_is (u ∷ ts) (Some x) t i e = let f : x.now ≡ u = i.3.1 u in let g : x.now ≡ t = cc in ap (λ v. v ∷ ts) (sym f ∙ g)
 
-pub no_front_no_tasks : (ts : List Task) (o : Option (Bor Task)) → IsGetResult ts 0 0 o → option_map (λ x. x.now) o ≡ None → ts ≡ []
-no_front_no_tasks [] o i e = refl
-no_front_no_tasks (u ∷ ts) None i e = absurd (omega (arith, i.3))
-no_front_no_tasks (u ∷ ts) (Some x) i e = let z : ◌≡◌ {A = ℕ} 0 1 = cc in absurd (omega arith)
-
 -- a listed task that was not done may be done
 pub first_may : (s : Ledger) (t : Task) (raw ts : List Task) → raw ≡ t ∷ ts → ((u : Task) → (has u raw && live s u) ≡ may_do s u) → live s t ≡ true → may_do s t ≡ true
 first_may s t raw ts is listed e = sym (listed t) ∙ ap (λ us. has t us && live s t) is ∙ ap (λ b. b && live s t) (has_first t ts) ∙ e
 
 -- once it is done it is not live
 pub ended : (t : Task) (s : Ledger) (ts : List Task) (s' : Ledger) (ts' : List Task) → Does t s ts s' ts' → may_do s t ≡ true → live s' t ≡ false
-ended t s ts s' ts' does may = does.ends t may ∙ ap not (task_is_itself t)
+ended t s ts s' ts' does may = does.ends t may ∙ ap not (same_refl t)
 
 -- a task in front that is not live
 module _ (s : Ledger) (t : Task) (raw ts : List Task) (is : raw ≡ t ∷ ts) (gone : live s t ≡ false) where
@@ -53,7 +39,7 @@ module _ (s : Ledger) (t : Task) (raw ts : List Task) (is : raw ≡ t ∷ ts) (g
   distinct_without e = (and_parts (not (has t ts)) (distinct ts) (ap distinct (sym is) ∙ e)).1
 
   pub listed_without : ((u : Task) → (has u raw && live s u) ≡ may_do s u) → (u : Task) → (has u ts && live s u) ≡ may_do s u
-  listed_without listed u = sym (passed (same_task u t) (has u ts) (live s u) (λ e. ap (live s) (same_task_is u t e) ∙ gone)) ∙ ap (λ us. has u us && live s u) (sym is) ∙ listed u
+  listed_without listed u = sym (passed (same_task u t) (has u ts) (live s u) (λ e. ap (live s) (same_true u t e) ∙ gone)) ∙ ap (λ us. has u us && live s u) (sym is) ∙ listed u
     where
       passed : (b h l : Bool) → (b ≡ true → l ≡ false) → ((b || h) && l) ≡ (h && l)
       passed false h l e = refl
@@ -157,7 +143,7 @@ kept_same p p' (u ∷ us) f = ap (λ b. cond b (u ∷ filter p' us) (filter p' u
 not_again : (t u : Task) (ts : List Task) → distinct (t ∷ ts) ≡ true → has u ts ≡ true → same_task u t ≡ false
 not_again t u ts e in' =
     elim (cases_Bool (same_task u t)) [
-      | inl y ↦ absurd (both_ways (has t ts) (not-true (has t ts) (and_parts (not (has t ts)) (distinct ts) e).0) (ap (λ v. has v ts) (sym (same_task_is u t y)) ∙ in'))
+      | inl y ↦ absurd (both_ways (has t ts) (not-true (has t ts) (and_parts (not (has t ts)) (distinct ts) e).0) (ap (λ v. has v ts) (sym (same_true u t y)) ∙ in'))
       | inr n ↦ n
     ]
 

@@ -21,6 +21,3 @@ module _ (p : Task → Bool) (t : Task) (ts : List Task) where
 
 pub kept_all : (p : Task → Bool) (ds rest all : List Task) → ds ++ filter p rest ≡ all → length rest ≡ 0 → ds ≡ all
 kept_all p ds rest all so_far none = sym (append-nil ds) ∙ ap (λ us. ds ++ filter p us) (sym (nil_from_length rest none)) ∙ so_far
-
-pub kept_none : (p : Task → Bool) (ds rest raw : List Task) → ds ≡ [] → rest ≡ raw → ds ++ filter p rest ≡ filter p raw
-kept_none p ds rest raw none is = ap (λ us. us ++ filter p rest) none ∙ ap (filter p) is

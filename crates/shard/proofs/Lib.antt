@@ -3,3 +3,4 @@ pub mod Changing
 pub mod Events
 pub mod Kept
 pub mod Going
+pub mod Handing

@@ -1,5 +1,6 @@
 -- The list of tasks after a step: none is lost, none is listed twice.
 use Rattle.std.proofs.Common.{◌≡◌, ℕ, suc, ◌≤◌, Bool, true, false, cond, not, ◌&&◌, ◌||◌, leb, List, [], ◌∷◌, ◌++◌, filter, sym, refl, ap, ◌∙◌, inl, inr, arith}
+use Rattle.std.proofs.lemmas.List.Elements.{filter-append}
 use Rattle.std.proofs.lemmas.Bool.{both_ways, not-true, not_from_false, and_parts, and_from, and_left, and_right, or_cases, or_parts, or_left, or_right, or_from, cases_Bool, cond-true, eqb-true, eq-eqb, leb-true}
 use Rattle.orders.specs.Valid.{rising}
 use Rattle.shard.specs.Tasks.{place_of, same_task, has, distinct, places}
@@ -55,14 +56,6 @@ rising_distinct low (t ∷ ts) r =
     (rising_distinct (suc (place_of t)) ts p.1)
 
 -- what a filter keeps
-kept_append : (f : Task → Bool) (ts us : List Task) → filter f (ts ++ us) ≡ filter f ts ++ filter f us
-kept_append f [] us = refl
-kept_append f (t ∷ ts) us = ap (λ l. cond (f t) (t ∷ l) l) (kept_append f ts us) ∙ out (f t)
-  where
-    out : (b : Bool) → cond b (t ∷ (filter f ts ++ filter f us)) (filter f ts ++ filter f us) ≡ cond b (t ∷ filter f ts) (filter f ts) ++ filter f us
-    out true = refl
-    out false = refl
-
 kept_all : (f : Task → Bool) (ts : List Task) → ((t : Task) → has t ts ≡ true → f t ≡ true) → filter f ts ≡ ts
 kept_all f [] each = refl
 kept_all f (t ∷ ts) each =
@@ -115,7 +108,7 @@ module _ (may may' live live' : Task → Bool) (raw fresh : List Task)
 
   pub list_becomes : filter live' (raw ++ fresh) ≡ filter may' (filter live raw) ++ fresh
   list_becomes =
-      kept_append live' raw fresh ∙ ap (λ l. l ++ filter live' fresh) (kept_both live' live may' raw same) ∙ ap (λ l. filter may' (filter live raw) ++ l) (kept_all live' fresh (λ t h. lives t (fresh_may t h).0))
+      filter-append live' raw fresh ∙ ap (λ l. l ++ filter live' fresh) (kept_both live' live may' raw same) ∙ ap (λ l. filter may' (filter live raw) ++ l) (kept_all live' fresh (λ t h. lives t (fresh_may t h).0))
     where
       same : (t : Task) → has t raw ≡ true → live' t ≡ (live t && may' t)
       same t h =

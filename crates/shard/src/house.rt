@@ -24,7 +24,7 @@ pub struct House {
 }
 
 // What was done at one go.
-#[derive(Drop)]
+#[derive(Debug, Drop)]
 pub struct Went {
     pub done: Vec<Task>,
     // why it stopped before the count was reached, if it did: want of memory

@@ -3,22 +3,18 @@
 
 mod bench;
 mod failure;
-mod pieces;
 mod play;
 mod script;
 
 use bench::{Bench, peak};
-use failure::Failure;
+use failure::{Failure, Reason, refused};
 use play::play;
+use program::{end, feed, read};
 use script::number;
 use shard::House;
-use std::fs::File;
-use std::io::{BufWriter, Read, Write};
+use std::io::{BufWriter, Write};
 use std::process::ExitCode;
-use std::{env, fs, io};
-
-// How many bytes are read at once.
-const PIECE: usize = 131_072;
+use std::{env, fs};
 
 const HELP: &str = "solo HOUSE LINE SCRIPT
 solo --bench HOUSE LINE
@@ -41,42 +37,18 @@ that it had.
 ";
 
 fn main(rt: HostRuntime) -> ExitCode {
-    match run(&rt) {
-        Ok(()) => ExitCode::SUCCESS,
-        Err(e) => {
-            let _ = eprintln!(rt; "solo: {e}");
-            ExitCode::FAILURE
-        }
-    }
+    end(&rt, "solo", run(&rt))
 }
 
 fn run(rt: &HostRuntime) -> Result<(), Failure> {
-    let mut args = env::args(rt)?.skip(1);
-    let Some(first) = args.next() else {
-        return Err(Failure::Arguments);
-    };
-    let Some(second) = args.next() else {
-        return help(rt, first.as_str());
-    };
-    let Some(third) = args.next() else {
-        return Err(Failure::Arguments);
-    };
-    if args.next().is_some() {
-        return Err(Failure::Arguments);
-    }
-    match first.as_str() {
-        "--bench" => measure(rt, second.as_str(), third.as_str()),
-        house => solo(rt, house, second.as_str(), third.as_str()),
-    }
-}
-
-fn help(rt: &HostRuntime, word: &str) -> Result<(), Failure> {
-    match word {
-        "--help" => {
-            rt.print(HELP)?;
-            Ok(())
+    let args: Vec<String> = env::args(rt)?.skip(1).collect(rt.alloc())?;
+    match args.as_slice() {
+        [word] if word.as_str() == "--help" => Ok(rt.print(HELP)?),
+        [word, house, line] if word.as_str() == "--bench" => {
+            measure(rt, house.as_str(), line.as_str())
         }
-        _ => Err(Failure::Arguments),
+        [house, line, script] => solo(rt, house.as_str(), line.as_str(), script.as_str()),
+        _ => Err(Failure::Own(Reason::Arguments)),
     }
 }
 
@@ -84,71 +56,26 @@ fn solo(rt: &HostRuntime, house: &str, line: &str, script: &str) -> Result<(), F
     let house = new_house(rt, house)?;
     let log = read(rt, line)?;
     let script = read(rt, script)?;
-    let mut out = BufWriter::new(rt.alloc(), rt.stdout())?;
-    play(
-        &mut out,
-        rt.alloc(),
-        house,
-        log.as_slice(),
-        script.as_slice(),
-    )?;
-    out.flush()?;
+    let out = BufWriter::new(rt.alloc(), rt.stdout())?;
+    play(out, rt.alloc(), house, log.as_slice(), script.as_slice())?;
     Ok(())
 }
 
 fn new_house(rt: &HostRuntime, word: &str) -> Result<House, Failure> {
-    let Some(number) = number(word.as_bytes()) else {
-        return Err(Failure::House);
-    };
-    if number >= 16 {
-        return Err(Failure::House);
-    }
-    Ok(House::new(rt.alloc(), number as u8)?)
-}
-
-fn read(rt: &HostRuntime, path: &str) -> Result<Vec<u8>, Failure> {
-    match fs::read(rt, path) {
-        Ok(bytes) => Ok(bytes),
-        Err(e) => Err(about(rt, path, e)),
-    }
-}
-
-// What went wrong with a file.
-fn about(rt: &HostRuntime, path: &str, error: io::Error) -> Failure {
-    match format!(in rt.alloc(); "{path}: {error}") {
-        Ok(text) => Failure::File(text),
-        Err(e) => e.into(),
+    match number(word).and_then(|number| u8::try_from(number).ok()) {
+        Some(number) if number < 16 => House::new(rt.alloc(), number).map_err(refused),
+        _ => Err(Failure::Own(Reason::House)),
     }
 }
 
 fn measure(rt: &HostRuntime, house: &str, line: &str) -> Result<(), Failure> {
     let mut bench = Bench::new(rt.alloc(), new_house(rt, house)?);
-    feed(rt, line, &mut bench)?;
+    feed(rt, line, |piece| bench.push(piece).map_err(refused))?;
+    bench.finish().map_err(refused)?;
     let mut out = BufWriter::new(rt.alloc(), rt.stdout())?;
     bench.print(&mut out)?;
     out.flush()?;
     print_memory(rt)
-}
-
-// Reads the file by pieces, all through one room.
-fn feed(rt: &HostRuntime, path: &str, bench: &mut Bench) -> Result<(), Failure> {
-    let mut file = match File::open(rt, path) {
-        Ok(file) => file,
-        Err(e) => return Err(about(rt, path, e)),
-    };
-    let mut room = vec![in rt.alloc(); 0; PIECE]?;
-    for _ in 0..u64::MAX {
-        let count = match file.read(&mut room) {
-            Ok(count) => count,
-            Err(e) => return Err(about(rt, path, e)),
-        };
-        if count == 0 {
-            break;
-        }
-        bench.push(&room[0..count])?;
-    }
-    bench.finish()?;
-    Ok(())
 }
 
 fn print_memory(rt: &HostRuntime) -> Result<(), Failure> {

@@ -1,6 +1,5 @@
 // Plays a script on a house. A line of the script gets a line of answer, but for empty ones.
-use crate::pieces::Pieces;
-use crate::script::{Command, parse};
+use crate::script::Command;
 use ledger::{Note, Refusal};
 use line::Frames;
 use orders::{Order, Outcome};
@@ -8,205 +7,183 @@ use shard::{House, Task};
 use std::alloc::Global;
 use std::io;
 use std::io::Write;
+use std::iter::Peekable;
 
-// The log, and how much of it the house has.
+// Where the answers go, and what the house has had of the log. The house is no field: a look or a write takes it and hands it back.
 #[derive(Drop)]
-struct Given<'a> {
-    log: &'a [u8],
-    // where each order begins that the house has
-    starts: Vec<usize>,
-    // and where the next one does
-    next: usize,
+struct Player<'a, W> {
+    out: W,
+    // the orders that are still to come
+    log: Peekable<Frames<'a>>,
+    // those that the house has
+    given: Vec<&'a [u8]>,
 }
 
-pub fn play<W: Write>(
-    out: &mut W,
+pub fn play<W: Write + Drop>(
+    out: W,
     heap: Global,
     house: House,
     log: &[u8],
     script: &[u8],
 ) -> io::Result<()> {
-    let mut house = house;
-    let mut given = Given {
-        log,
-        starts: Vec::new(heap),
-        next: 0,
+    let mut player = Player {
+        out,
+        log: Frames::new(log).peekable(),
+        given: Vec::new(heap),
     };
-    let mut lines = Pieces::new(script, b'\n');
-    for number in 1..u64::MAX {
-        let Some(line) = lines.next() else {
-            break;
-        };
+    let mut house = house;
+    for (number, line) in (1u64..).zip(script.split(|byte| *byte == b'\n')) {
         if line.is_empty() {
             continue;
         }
-        match parse(line) {
-            Some(command) => house = obey(out, house, &mut given, command)?,
-            None => writeln!(out, "line {number}: not understood")?,
+        match Command::parse(line) {
+            Some(command) => house = player.obey(house, command)?,
+            None => writeln!(player.out, "line {number}: not understood")?,
         }
     }
-    Ok(())
+    player.out.flush()
 }
 
-fn obey<W: Write>(
-    out: &mut W,
-    mut house: House,
-    given: &mut Given<'_>,
-    command: Command,
-) -> io::Result<House> {
-    match command {
-        Command::Look(place) => return look(out, house, place),
-        Command::Write(place) => return write(out, house, given, place),
-        Command::Order => order(out, &mut house, given)?,
-        Command::Told(from, place, values) => told(out, &mut house, from, place, &values)?,
-        Command::Ready => ready(out, &house)?,
-        Command::Go(most) => go(out, &mut house, most)?,
-        Command::Show(key) => show(out, &house, key)?,
-    }
-    Ok(house)
-}
-
-fn order<W: Write>(out: &mut W, house: &mut House, given: &mut Given<'_>) -> io::Result<()> {
-    let Some(bytes) = order_at(given.log, given.next) else {
-        return writeln!(out, "refused: no more orders");
-    };
-    if given.starts.reserve(1).is_err() {
-        return refused(out, Refusal::Memory);
-    }
-    match house.append(bytes) {
-        Ok(place) => {
-            given.starts.push(given.next)?;
-            given.next = given.next.saturating_add(bytes.len()).saturating_add(2);
-            writeln!(out, "order {place}")
+impl<'a, W: Write> Player<'a, W> {
+    fn obey(&mut self, mut house: House, command: Command) -> io::Result<House> {
+        match command {
+            Command::Look(place) => return self.look(house, place),
+            Command::Write(place) => return self.write(house, place),
+            Command::Order => self.order(&mut house)?,
+            Command::Told {
+                from,
+                place,
+                values,
+            } => self.told(&mut house, from, place, &values)?,
+            Command::Ready => self.ready(&house)?,
+            Command::Go(most) => self.go(&mut house, most)?,
+            Command::Show(key) => self.show(&house, key)?,
         }
-        Err(refusal) => refused(out, refusal),
+        Ok(house)
     }
-}
 
-// The bytes of the order that begins at an index of a log; none where no whole one does.
-fn order_at(log: &[u8], start: usize) -> Option<&[u8]> {
-    if start > log.len() {
-        return None;
-    }
-    Frames::new(&log[start..]).next()
-}
-
-fn look<W: Write>(out: &mut W, house: House, place: u32) -> io::Result<House> {
-    match house.look(place) {
-        Ok((house, note)) => {
-            print_note(out, place, &note)?;
-            Ok(house)
+    fn order(&mut self, house: &mut House) -> io::Result<()> {
+        let Some(order) = self.log.peek().copied() else {
+            return writeln!(self.out, "refused: no more orders");
+        };
+        if self.given.reserve(1).is_err() {
+            return self.refused(Refusal::Memory);
         }
-        Err((house, refusal)) => {
-            refused(out, refusal)?;
-            Ok(house)
+        match house.append(order) {
+            Ok(place) => {
+                self.log.next();
+                self.given.push(order)?;
+                writeln!(self.out, "order {place}")
+            }
+            Err(refusal) => self.refused(refusal),
         }
     }
-}
 
-fn print_note<W: Write>(out: &mut W, place: u32, note: &Note) -> io::Result<()> {
-    write!(out, "looked {place}:")?;
-    for value in note.as_slice() {
-        write!(out, " {value}")?;
-    }
-    writeln!(out, "")
-}
-
-fn write<W: Write>(out: &mut W, house: House, given: &Given<'_>, place: u32) -> io::Result<House> {
-    match house.write(place) {
-        Ok((house, Outcome::Nothing)) => {
-            writeln!(out, "wrote {place}: nothing")?;
-            Ok(house)
-        }
-        Ok((house, Outcome::Writes(_))) => {
-            print_written(out, &house, place, &order_of(given, place))?;
-            Ok(house)
-        }
-        Err((house, refusal)) => {
-            refused(out, refusal)?;
-            Ok(house)
+    fn look(&mut self, house: House, place: u32) -> io::Result<House> {
+        match house.look(place) {
+            Ok((house, note)) => {
+                self.print_note(place, &note)?;
+                Ok(house)
+            }
+            Err((house, refusal)) => {
+                self.refused(refusal)?;
+                Ok(house)
+            }
         }
     }
-}
 
-// The order at a place; one that does nothing where the house has none or it is malformed.
-fn order_of(given: &Given<'_>, place: u32) -> Order {
-    let mut order = Order::idle();
-    if let Some(start) = given.starts.get(place as usize) {
-        if let Some(bytes) = order_at(given.log, *start) {
-            let _ = order.decode_into(bytes);
+    fn print_note(&mut self, place: u32, note: &Note) -> io::Result<()> {
+        write!(self.out, "looked {place}:")?;
+        for value in note.as_slice() {
+            write!(self.out, " {value}")?;
+        }
+        writeln!(self.out, "")
+    }
+
+    fn write(&mut self, house: House, place: u32) -> io::Result<House> {
+        match house.write(place) {
+            Ok((house, Outcome::Nothing)) => {
+                writeln!(self.out, "wrote {place}: nothing")?;
+                Ok(house)
+            }
+            Ok((house, Outcome::Writes(_))) => {
+                let order = self.order_of(place);
+                self.print_written(&house, place, &order)?;
+                Ok(house)
+            }
+            Err((house, refusal)) => {
+                self.refused(refusal)?;
+                Ok(house)
+            }
         }
     }
-    order
-}
 
-// The house's own among the keys that an order writes, and what stands there now.
-fn print_written<W: Write>(
-    out: &mut W,
-    house: &House,
-    place: u32,
-    order: &Order,
-) -> io::Result<()> {
-    write!(out, "wrote {place}:")?;
-    for key in order.writes() {
-        if let Some(value) = house.ledger().value(*key) {
-            write!(out, " {key}={value}")?;
+    // The order at a place; one that does nothing where the house has none or it is malformed.
+    fn order_of(&self, place: u32) -> Order {
+        let bytes = self.given.get(place as usize).copied();
+        bytes
+            .and_then(|bytes| Order::decode(bytes).ok())
+            .unwrap_or_else(|| Order::idle())
+    }
+
+    // The house's own among the keys that an order writes, and what stands there now.
+    fn print_written(&mut self, house: &House, place: u32, order: &Order) -> io::Result<()> {
+        write!(self.out, "wrote {place}:")?;
+        for key in order.writes() {
+            if let Some(value) = house.ledger().value(*key) {
+                write!(self.out, " {key}={value}")?;
+            }
+        }
+        writeln!(self.out, "")
+    }
+
+    fn told(&mut self, house: &mut House, from: u8, place: u32, values: &Note) -> io::Result<()> {
+        match house.hear(from, place, values.as_slice()) {
+            Ok(()) => writeln!(self.out, "kept"),
+            Err(refusal) => self.refused(refusal),
         }
     }
-    writeln!(out, "")
-}
 
-fn told<W: Write>(
-    out: &mut W,
-    house: &mut House,
-    from: u8,
-    place: u32,
-    values: &Note,
-) -> io::Result<()> {
-    match house.hear(from, place, values.as_slice()) {
-        Ok(()) => writeln!(out, "kept"),
-        Err(refusal) => refused(out, refusal),
-    }
-}
-
-fn ready<W: Write>(out: &mut W, house: &House) -> io::Result<()> {
-    match house.ready() {
-        Ok(tasks) => print_tasks(out, "ready:", tasks.as_slice()),
-        Err(_) => refused(out, Refusal::Memory),
-    }
-}
-
-// A want of memory on the way has a line of its own.
-fn go<W: Write>(out: &mut W, house: &mut House, most: u32) -> io::Result<()> {
-    let went = house.go(most as usize);
-    print_tasks(out, "did:", went.done.as_slice())?;
-    match went.refusal {
-        None => Ok(()),
-        Some(refusal) => refused(out, refusal),
-    }
-}
-
-fn print_tasks<W: Write>(out: &mut W, name: &str, tasks: &[Task]) -> io::Result<()> {
-    write!(out, "{name}")?;
-    for task in tasks {
-        match task {
-            Task::Look(place) => write!(out, " look {place}")?,
-            Task::Write(place) => write!(out, " write {place}")?,
+    fn ready(&mut self, house: &House) -> io::Result<()> {
+        match house.ready() {
+            Ok(tasks) => self.print_tasks("ready:", tasks.as_slice()),
+            Err(_) => self.refused(Refusal::Memory),
         }
     }
-    writeln!(out, "")
-}
 
-fn show<W: Write>(out: &mut W, house: &House, key: u16) -> io::Result<()> {
-    match house.ledger().value(key) {
-        Some(value) => writeln!(out, "{key} {value}"),
-        None => writeln!(out, "refused: not a key of this house"),
+    // A want of memory on the way has a line of its own.
+    fn go(&mut self, house: &mut House, most: u32) -> io::Result<()> {
+        let went = house.go(most as usize);
+        self.print_tasks("did:", went.done.as_slice())?;
+        match went.refusal {
+            None => Ok(()),
+            Some(refusal) => self.refused(refusal),
+        }
     }
-}
 
-fn refused<W: Write>(out: &mut W, refusal: Refusal) -> io::Result<()> {
-    match refusal.number() {
-        Some(number) => writeln!(out, "refused {number}"),
-        None => writeln!(out, "refused: out of memory"),
+    // The words are answers of this program, so a task has no Display.
+    fn print_tasks(&mut self, name: &str, tasks: &[Task]) -> io::Result<()> {
+        write!(self.out, "{name}")?;
+        for task in tasks {
+            match task {
+                Task::Look(place) => write!(self.out, " look {place}")?,
+                Task::Write(place) => write!(self.out, " write {place}")?,
+            }
+        }
+        writeln!(self.out, "")
+    }
+
+    fn show(&mut self, house: &House, key: u16) -> io::Result<()> {
+        match house.ledger().value(key) {
+            Some(value) => writeln!(self.out, "{key} {value}"),
+            None => writeln!(self.out, "refused: not a key of this house"),
+        }
+    }
+
+    fn refused(&mut self, refusal: Refusal) -> io::Result<()> {
+        match refusal.number() {
+            Some(number) => writeln!(self.out, "refused {number}"),
+            None => writeln!(self.out, "refused: out of memory"),
+        }
     }
 }

@@ -59,38 +59,38 @@ module _ (qs : List Queue) (s : ℕ) (x y : Queue) (within : s < length qs) (is 
   entries_kept same =
       map-set entries_in qs s y ∙ ap (set (map entries_in qs) s) (same ∙ sym (get_or_map_read entries_in qs s x [] within is)) ∙ set-get_or (map entries_in qs) s []
 
--- the mark at an index, which has the key k
-module _ (at k : ℕ) (ms : List Mark) (d : Mark) (l : at < length ms) (key : k ≡ (get_or ms at d).key) (qs : List Queue) (x y : Queue) (within : slot k < length qs) (is : x ≡ get_or qs (slot k) x) where
+-- the mark at an index, whose queue is x, at s
+module _ (at s : ℕ) (ms : List Mark) (d : Mark) (l : at < length ms) (key : s ≡ slot (get_or ms at d).key) (qs : List Queue) (x y : Queue) (within : s < length qs) (is : x ≡ get_or qs s x) where
   pub room_of_mark : (n : ℕ) → Roomy qs n ms → n ≤ room_in x
   room_of_mark n r =
       let a : n ≤ room_at qs (slot (get_or ms at d).key) = All-get_or (λ (m : Mark). n ≤ room_at qs (slot m.key)) ms at d l r in
-      let b : room_at qs (slot (get_or ms at d).key) ≡ room_in x = ap (λ h. room_at qs (slot h)) (sym key) ∙ room_read qs (slot k) x y within is in
+      let b : room_at qs (slot (get_or ms at d).key) ≡ room_in x = ap (room_at qs) (sym key) ∙ room_read qs s x y within is in
       omega arith
 
   -- one queue more that has room
-  pub roomy_more : room_in x ≤ room_in y → length ms ≤ room_in y → Roomy qs (length ms) (take at ms) → Roomy (set qs (slot k) y) (length ms) (take (at + 1) ms)
+  pub roomy_more : room_in x ≤ room_in y → length ms ≤ room_in y → Roomy qs (length ms) (take at ms) → Roomy (set qs s y) (length ms) (take (at + 1) ms)
   roomy_more more room r =
-      All-more (λ (m : Mark). length ms ≤ room_at (set qs (slot k) y) (slot m.key)) ms at d l
-      (roomy_left qs (slot k) x y within is (length ms) (length ms) (take at ms) (omega arith) (λ e. omega arith) r)
-      (let a : room_at (set qs (slot k) y) (slot (get_or ms at d).key) ≡ room_in y = ap (λ h. room_at (set qs (slot k) y) (slot h)) (sym key) ∙ room_here qs (slot k) x y within is in omega arith)
+      All-more (λ (m : Mark). length ms ≤ room_at (set qs s y) (slot m.key)) ms at d l
+      (roomy_left qs s x y within is (length ms) (length ms) (take at ms) (omega arith) (λ e. omega arith) r)
+      (let a : room_at (set qs s y) (slot (get_or ms at d).key) ≡ room_in y = ap (room_at (set qs s y)) (sym key) ∙ room_here qs s x y within is in omega arith)
 
   -- a queue that has not room now had not before
-  pub cramped_before : (before : List Queue) → ((s : ℕ) → room_at before s ≤ room_at qs s) → room_in x < length ms → Cramped before ms
+  pub cramped_before : (before : List Queue) → ((t : ℕ) → room_at before t ≤ room_at qs t) → room_in x < length ms → Cramped before ms
   cramped_before before grew few = (
     get_or ms at d,
     has_get_or ms at d l,
-    let a : room_at qs (slot (get_or ms at d).key) ≡ room_in x = ap (λ h. room_at qs (slot h)) (sym key) ∙ room_read qs (slot k) x y within is in omega (arith, grew (slot (get_or ms at d).key)),
+    let a : room_at qs (slot (get_or ms at d).key) ≡ room_in x = ap (room_at qs) (sym key) ∙ room_read qs s x y within is in omega (arith, grew (slot (get_or ms at d).key)),
   )
 
-  pub enters_next : (i : ℕ) → entries_in y ≡ entries_in x ++ entry i (get_or ms at d).writes ∷ [] → enter_all i (drop (at + 1) ms) (map entries_in (set qs (slot k) y)) ≡ enter_all i (drop at ms) (map entries_in qs)
+  pub enters_next : (i : ℕ) → entries_in y ≡ entries_in x ++ entry i (get_or ms at d).writes ∷ [] → enter_all i (drop (at + 1) ms) (map entries_in (set qs s y)) ≡ enter_all i (drop at ms) (map entries_in qs)
   unfolding enter_all
   enters_next i pushed =
       let es = map entries_in qs in
       let e = entry i (get_or ms at d).writes in
-      let changed : map entries_in (set qs (slot k) y) ≡ set es (slot k) (get_or es (slot k) [] ++ e ∷ []) =
-      map-set entries_in qs (slot k) y ∙ ap (set es (slot k)) (pushed ∙ ap (λ fs. fs ++ e ∷ []) (sym (get_or_map_read entries_in qs (slot k) x [] within is))) in
+      let changed : map entries_in (set qs s y) ≡ set es s (get_or es s [] ++ e ∷ []) =
+      map-set entries_in qs s y ∙ ap (set es s) (pushed ∙ ap (λ fs. fs ++ e ∷ []) (sym (get_or_map_read entries_in qs s x [] within is))) in
       let step : enter_all i (drop at ms) es ≡ enter_all i (drop (at + 1) ms) (set es (slot (get_or ms at d).key) (get_or es (slot (get_or ms at d).key) [] ++ e ∷ [])) = at_drop_more (λ ns. enter_all i ns es) ms at d l in
-      ap (enter_all i (drop (at + 1) ms)) changed ∙ ap (λ h. enter_all i (drop (at + 1) ms) (set es (slot h) (get_or es (slot h) [] ++ e ∷ []))) key ∙ sym step
+      ap (enter_all i (drop (at + 1) ms)) changed ∙ ap (λ h. enter_all i (drop (at + 1) ms) (set es h (get_or es h [] ++ e ∷ []))) key ∙ sym step
 
 -- an order more, with the marks ms; b: whether it is done at once
 module _ (rows rows' : List (List Mark)) (bs bs' cs : List Bool) (ms : List Mark) (b : Bool) (n : ℕ) (long : length rows ≡ n) (flags : length bs ≡ n) (row : rows' ≡ rows ++ ms ∷ []) (kept : cs ≡ bs) (more : bs' ≡ cs ++ b ∷ []) (nothing : b ≡ true → ms ≡ []) where

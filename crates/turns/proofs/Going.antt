@@ -15,16 +15,16 @@ use Rattle.turns.proofs.Leaving.{queue_agrees, without_queue, queue_untouched}
 pub get_or_map_read : {X Y : Type 0} (f : X → Y) (xs : List X) (i : ℕ) (x : X) (e : Y) → i < length xs → x ≡ get_or xs i x → get_or (map f xs) i e ≡ f x
 get_or_map_read f xs i x e l is = get_or-map f xs i x e l ∙ ap f (sym is)
 
--- one queue, with the number of the key k, is left
-pub leaves_next : (i at k : ℕ) (ms : List Mark) (d : Mark) (qs : List Queue) (x y : Queue) → at < length ms → k ≡ (get_or ms at d).key → slot k < length qs → x ≡ get_or qs (slot k) x → entries_in y ≡ without i (entries_in x) →
-    leave_all i (drop (at + 1) ms) (map entries_in (set qs (slot k) y)) ≡ leave_all i (drop at ms) (map entries_in qs)
+-- one queue, that of the mark at an index, is left
+pub leaves_next : (i at s : ℕ) (ms : List Mark) (d : Mark) (qs : List Queue) (x y : Queue) → at < length ms → s ≡ slot (get_or ms at d).key → s < length qs → x ≡ get_or qs s x → entries_in y ≡ without i (entries_in x) →
+    leave_all i (drop (at + 1) ms) (map entries_in (set qs s y)) ≡ leave_all i (drop at ms) (map entries_in qs)
 unfolding leave_all
-leaves_next i at k ms d qs x y l key within is left =
+leaves_next i at s ms d qs x y l key within is left =
     let es = map entries_in qs in
-    let changed : map entries_in (set qs (slot k) y) ≡ set es (slot k) (without i (get_or es (slot k) [])) =
-    map-set entries_in qs (slot k) y ∙ ap (set es (slot k)) (left ∙ ap (without i) (sym (get_or_map_read entries_in qs (slot k) x [] within is))) in
+    let changed : map entries_in (set qs s y) ≡ set es s (without i (get_or es s [])) =
+    map-set entries_in qs s y ∙ ap (set es s) (left ∙ ap (without i) (sym (get_or_map_read entries_in qs s x [] within is))) in
     let step : leave_all i (drop at ms) es ≡ leave_all i (drop (at + 1) ms) (set es (slot (get_or ms at d).key) (without i (get_or es (slot (get_or ms at d).key) []))) = at_drop_more (λ ns. leave_all i ns es) ms at d l in
-    ap (leave_all i (drop (at + 1) ms)) changed ∙ ap (λ h. leave_all i (drop (at + 1) ms) (set es (slot h) (without i (get_or es (slot h) [])))) key ∙ sym step
+    ap (leave_all i (drop (at + 1) ms)) changed ∙ ap (λ h. leave_all i (drop (at + 1) ms) (set es h (without i (get_or es h [])))) key ∙ sym step
 
 -- es: what a queue is to be once the order at i is taken out, whether or not it was taken out already
 module _ (i q : ℕ) (es : List Entry) (gone : without i es ≡ es) where

@@ -1,9 +1,9 @@
 -- The queues once an order has come behind the others, and once it is done.
-use Rattle.std.proofs.Common.{◌≡◌, ℕ, zero, suc, ◌<◌, ◌≤◌, Bool, true, false, cond, ◌&&◌, ◌||◌, eqb, ltb, ◌⊎◌, List, [], ◌∷◌, ◌++◌, length, get_or, set, sym, refl, ap, ◌∙◌, inl, inr, arith}
+use Rattle.std.proofs.Common.{◌≡◌, ℕ, zero, suc, ◌<◌, ◌≤◌, Bool, true, false, cond, ◌&&◌, eqb, ltb, List, [], ◌∷◌, ◌++◌, length, get_or, set, sym, refl, ap, ◌∙◌, inl, inr, arith}
 use Rattle.std.proofs.lemmas.List.{append-nil, append_assoc, length-set, get_or-set_same, get_or-set_other}
 use Rattle.std.proofs.lemmas.Bool.{cond-true, cond-false, cond_both, cases_lt, cases_eq, le-ltb, lt-ltb, eq-eqb, ne_eqb, or_parts}
 use Rattle.turns.specs.Marks.{slot, blocks, put}
-use Rattle.turns.specs.Queues.{entry, entered, queue, without, enter_all, leave_all}
+use Rattle.turns.specs.Queues.{entry, entered, queue, without, enter_all}
 use Rattle.turns.specs.declared.entry.Mark.{Mark}
 use Rattle.turns.specs.declared.entry.Entry.{Entry}
 use Rattle.turns.proofs.Looking.{Before, queue_before}
@@ -144,12 +144,6 @@ module _ (i : ℕ) where
         nothing false f = f
 
 -- all queues at once
-pub enter_all_length : (i : ℕ) (ms : List Mark) (qs : List (List Entry)) → length (enter_all i ms qs) ≡ length qs
-unfolding enter_all
-enter_all_length i [] qs = refl
-enter_all_length i (m ∷ ms) qs =
-    enter_all_length i ms (set qs (slot m.key) (get_or qs (slot m.key) [] ++ entry i m.writes ∷ [])) ∙ length-set qs (slot m.key) (get_or qs (slot m.key) [] ++ entry i m.writes ∷ [])
-
 pub enter_all_queue : (i : ℕ) (ms : List Mark) (qs : List (List Entry)) (q : ℕ) → q < length qs → get_or (enter_all i ms qs) q [] ≡ get_or qs q [] ++ entered q i ms
 unfolding enter_all
 enter_all_queue i [] qs q l = sym (append-nil (get_or qs q []))
@@ -164,43 +158,3 @@ enter_all_queue i (m ∷ ms) qs q l =
           ap (λ es. es ++ entered q i ms) (get_or-set_other qs (slot m.key) q (get_or qs (slot m.key) [] ++ entry i m.writes ∷ []) [] (λ e. ne (sym e)))
           ∙ ap (λ es. get_or qs q [] ++ es) (sym (cond-false (eqb (slot m.key) q) (entry i m.writes ∷ entered q i ms) (entered q i ms) (ne_eqb (slot m.key) q ne)))
     ]
-
-pub leave_all_length : (i : ℕ) (ms : List Mark) (qs : List (List Entry)) → length (leave_all i ms qs) ≡ length qs
-unfolding leave_all
-leave_all_length i [] qs = refl
-leave_all_length i (m ∷ ms) qs =
-    leave_all_length i ms (set qs (slot m.key) (without i (get_or qs (slot m.key) []))) ∙ length-set qs (slot m.key) (without i (get_or qs (slot m.key) []))
-
--- f: what each queue is to be once the order at i is taken out, whether or not it was taken out already
-module _ (i : ℕ) (f : ℕ → List Entry) (gone : (q : ℕ) → without i (f q) ≡ f q) where
-  abbrev Ripe : List (List Entry) → ℕ → Type 0
-  Ripe qs q = (get_or qs q [] ≡ f q) ⊎ (without i (get_or qs q []) ≡ f q)
-
-  taken_out : (es : List Entry) (q : ℕ) → (es ≡ f q) ⊎ (without i es ≡ f q) → without i es ≡ f q
-  taken_out es q (inl e) = ap (without i) e ∙ gone q
-  taken_out es q (inr e) = e
-
-  leaves_one : (qs : List (List Entry)) (s q : ℕ) → s < length qs → ((q : ℕ) → Ripe qs q) → Ripe (set qs s (without i (get_or qs s []))) q
-  leaves_one qs s q l r =
-      elim (cases_eq q s) [
-        | inl e ↦ inl (at e)
-        | inr ne ↦ same (get_or-set_other qs s q (without i (get_or qs s [])) [] ne)
-      ]
-    where
-      at : q ≡ s → get_or (set qs s (without i (get_or qs s []))) q [] ≡ f q
-      at e = ap (λ p. get_or (set qs s (without i (get_or qs s []))) p []) e ∙ get_or-set_same qs s (without i (get_or qs s [])) [] l ∙ taken_out (get_or qs s []) s (r s) ∙ ap f (sym e)
-
-      same : {es : List Entry} → es ≡ get_or qs q [] → (es ≡ f q) ⊎ (without i es ≡ f q)
-      same e = elim (r q) [ inl p ↦ inl (e ∙ p) | inr p ↦ inr (ap (without i) e ∙ p) ]
-
-  pub leave_all_queue : (ms : List Mark) (qs : List (List Entry)) (q : ℕ) → ((m : Mark) → slot m.key < length qs) → ((q : ℕ) → Ripe qs q) →
-      (blocks true q ms ≡ false → get_or qs q [] ≡ f q) → get_or (leave_all i ms qs) q [] ≡ f q
-  unfolding leave_all
-  leave_all_queue [] qs q l r e = e refl
-  leave_all_queue (m ∷ ms) qs q l r e =
-      let s = slot m.key in
-      leave_all_queue ms (set qs s (without i (get_or qs s []))) q (λ m. omega (arith, l m, length-set qs s (without i (get_or qs s [])))) (λ q. leaves_one qs s q (l m) r)
-      (λ out. elim (cases_eq q s) [
-        | inl eq ↦ ap (λ p. get_or (set qs s (without i (get_or qs s []))) p []) eq ∙ get_or-set_same qs s (without i (get_or qs s [])) [] (l m) ∙ taken_out (get_or qs s []) s (r s) ∙ ap f (sym eq)
-        | inr ne ↦ get_or-set_other qs s q (without i (get_or qs s [])) [] ne ∙ e (ap (λ b. (b && true) || blocks true q ms) (ne_eqb s q (λ x. ne (sym x))) ∙ out)
-      ])

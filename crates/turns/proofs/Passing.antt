@@ -1,10 +1,16 @@
 -- Going from entry to entry and from mark to mark, and whether anybody stands in the way.
-use Rattle.std.proofs.Common.{◌≡◌, ℕ, ◌+◌, ◌/◌, ◌<◌, ◌≤◌, Bool, true, false, cond, not, ◌&&◌, ◌||◌, eqb, ltb, List, [], map, length, get_or, drop, vec_items, sym, ap, ◌∙◌, inl, inr, arith}
-use Rattle.std.proofs.lemmas.List.{at_drop_more, at_drop_all, get_or_past, get_or-map}
-use Rattle.std.proofs.lemmas.Bool.{cases_lt, cond-true, cond-false, le-ltb, lt-ltb, eq-eqb, ne_eqb, or_right, or_from, not_from_true, not_from_false}
+use Rattle.std.proofs.Common.{◌≡◌, ℕ, suc, ◌+◌, ◌<◌, ◌≤◌, Bool, true, false, cond, not, ◌&&◌, ◌||◌, eqb, ltb, List, [], ◌∷◌, map, length, get_or, take, vec_items, Option, Some, None, Bor, sym, refl, ap, ◌∙◌, inl, inr, arith}
+use Rattle.std.specs.List.{list_all, prefix_len}
+use Rattle.std.specs.Iterator.{Yields}
+use Rattle.std.specs.VecDeque.Iter.{deque_iter_rest, deque_iter_steps}
+use Rattle.std.specs.declared.collections.vec_deque.Iter.{Iter}
+use Rattle.std.proofs.lemmas.Iterator.{YieldsList}
+use Rattle.std.proofs.lemmas.Iterator.Consumers.{YieldsList-from_deque, YieldsList-turn, YieldsList-end}
+use Rattle.std.proofs.lemmas.List.{get_or_past, get_or-map}
+use Rattle.std.proofs.lemmas.Bool.{cases_lt}
 use Rattle.rows.specs.Lists.{rows_of}
-use Rattle.turns.specs.Marks.{slot, put, clear}
-use Rattle.turns.specs.Queues.{entry, clear_in}
+use Rattle.turns.specs.Marks.{slot, put, clear, ready}
+use Rattle.turns.specs.Queues.{clear_in}
 use Rattle.turns.specs.Entries.{entries_in}
 use Rattle.turns.specs.State.{marks_of, done_of, count_of, queue_at}
 use Rattle.turns.specs.declared.entry.Mark.{Mark}
@@ -14,79 +20,57 @@ use Rattle.turns.specs.declared.turns.Turns.{Turns}
 use Rattle.turns.proofs.Looking.{clear_none, clear_cons, clear_in_queue}
 use Rattle.turns.proofs.Alike.{same_from_alike}
 
--- one entry of a queue
-module _ (p b : ℕ) (w : Bool) (es : List Entry) (i : ℕ) (within : i < length es) where
-  abbrev here : Entry
-  here = get_or es i (entry 0 false)
+-- the entries before a place, each of which lets one pass
+module _ (p b : ℕ) (w : Bool) where
+  abbrev passes : Entry → Bool
+  passes e = eqb e.place b || not (w || e.writes)
 
-  abbrev rest : Bool
-  rest = clear_in p b w (drop (i + 1) es)
+  abbrev before : Entry → Bool
+  before e = ltb e.place p
 
-  clear_in_more : clear_in p b w (drop i es) ≡ cond (ltb here.place p) ((eqb here.place b || not (w || here.writes)) && rest) true
+  pub clear_in_all : (es : List Entry) → list_all passes (take (prefix_len before es) es) ≡ clear_in p b w es
   unfolding clear_in
-  clear_in_more = at_drop_more (clear_in p b w) es i (entry 0 false) within
+  clear_in_all [] = refl
+  clear_in_all (e ∷ es) = step (before e) (clear_in_all es)
+    where
+      step : (c : Bool) → list_all passes (take (prefix_len before es) es) ≡ clear_in p b w es → list_all passes (take (cond c (1 + prefix_len before es) 0) (e ∷ es)) ≡ cond c (passes e && clear_in p b w es) true
+      step true rest = let next : 1 + prefix_len before es ≡ suc (prefix_len before es) = omega arith in ap (λ n. list_all passes (take n (e ∷ es))) next ∙ ap (λ a. passes e && a) rest
+      step false rest = refl
 
-  pub clear_in_beyond : p ≤ here.place → clear_in p b w (drop i es) ≡ true
-  clear_in_beyond l = clear_in_more ∙ cond-false (ltb here.place p) ((eqb here.place b || not (w || here.writes)) && rest) true (le-ltb here.place p l)
-
-  clear_in_before : here.place < p → clear_in p b w (drop i es) ≡ ((eqb here.place b || not (w || here.writes)) && rest)
-  clear_in_before l = clear_in_more ∙ cond-true (ltb here.place p) ((eqb here.place b || not (w || here.writes)) && rest) true (lt-ltb here.place p l)
-
-  pub clear_in_waits : here.place < p → (here.place ≡ b → ⊥) → (w || here.writes) ≡ true → clear_in p b w (drop i es) ≡ false
-  clear_in_waits l ne t =
-      clear_in_before l
-      ∙ ap (λ x. (x || not (w || here.writes)) && rest) (ne_eqb here.place b ne)
-      ∙ ap (λ x. x && rest) (not_from_true (w || here.writes) t)
-
-  pub clear_in_own : here.place < p → here.place ≡ b → clear_in p b w (drop i es) ≡ rest
-  clear_in_own l own = clear_in_before l ∙ ap (λ x. (x || not (w || here.writes)) && rest) (eq-eqb here.place b own)
-
-  pub clear_in_reads : here.place < p → w ≡ false → here.writes ≡ false → clear_in p b w (drop i es) ≡ rest
-  clear_in_reads l f g =
-      clear_in_before l
-      ∙ ap (λ x. x && rest) (or_right (eqb here.place b) (not (w || here.writes)) (not_from_false (w || here.writes) (or_from w here.writes f g)))
-
-pub clear_in_end : (p b : ℕ) (w : Bool) (es : List Entry) (i : ℕ) → length es ≤ i → clear_in p b w (drop i es) ≡ true
-unfolding clear_in
-clear_in_end p b w es i l = at_drop_all (clear_in p b w) es i l
-
--- what the queue of a key holds, where its number is k or the same n
-pub queue_of_key : (t : Turns) (n k : ℕ) (q : Queue) → n ≡ k → n / 16 < 4096 → q ≡ get_or (vec_items t.queues) (n / 16) q → entries_in q ≡ queue_at t k
-queue_of_key t n k q same l is =
+-- what the queue of a key holds
+pub queue_of_key : (t : Turns) (k : ℕ) (q : Queue) → slot k < 4096 → q ≡ get_or (vec_items t.queues.by_key) (slot k) q → entries_in q ≡ queue_at t k
+queue_of_key t k q l is =
     ap entries_in is
-    ∙ sym (get_or-map entries_in (vec_items t.queues) (n / 16) q [] (omega arith))
-    ∙ same_from_alike (get_or (map entries_in (vec_items t.queues)) (n / 16) []) (queue_at t n) (t.queued (n / 16) l)
-    ∙ ap (queue_at t) same
+    ∙ sym (get_or-map entries_in (vec_items t.queues.by_key) (slot k) q [] (omega (arith, t.queues.sized)))
+    ∙ same_from_alike (get_or (map entries_in (vec_items t.queues.by_key)) (slot k) []) (queue_at t k) (t.queued (slot k) l)
 
--- an order with a mark is one of the orders
-pub place_within : (t : Turns) (p i : ℕ) (row : List Mark) → row ≡ marks_of t p → i < length row → p < count_of t
-place_within t p i row is l =
-    elim (cases_lt p (count_of t)) [
-      | inl m ↦ m
-      | inr m ↦ let none : row ≡ [] = is ∙ get_or_past (rows_of t.marks) p [] (omega arith) in absurd (omega (arith, ap length none))
-    ]
+-- going through the queue of a key: where the entry stands to which one has come, and that all are passed at the end
+module _ (t : Turns) (k : ℕ) (q : Queue) (l : slot k < 4096) (is : q ≡ get_or (vec_items t.queues.by_key) (slot k) q) (start : Iter Entry) (rest : deque_iter_rest start ≡ entries_in q) where
+  queued : YieldsList (deque_iter_steps {X = Entry}) (λ y. y.now) start (queue_at t k)
+  queued = YieldsList-from_deque (queue_at t k) (rest ∙ queue_of_key t k q l is)
 
--- one mark of the order at place p
-module _ (t : Turns) (p b i : ℕ) (row : List Mark) (is : row ≡ marks_of t p) (within : i < length row) where
-  abbrev here_mark : Mark
-  here_mark = get_or row i (record { key = 0; writes = false })
+  pub turn_of_key : (xs : List (Bor Entry)) (it : Iter Entry) → Yields deque_iter_steps start xs it → (r : Option (Bor Entry)) (u : Iter Entry) (x : Bor Entry) → r ≡ Some x → deque_iter_steps it r u →
+      (length xs < length (queue_at t k)) × (x.now ≡ get_or (queue_at t k) (length xs) x.now)
+  turn_of_key xs it y r u x e s = YieldsList-turn queued xs it y r u x e s
 
-  module _ (es : List Entry) (queued : es ≡ queue_at t here_mark.key) where
-    abbrev others : Bool
-    others = clear (marks_of t) (put b true (done_of t)) (drop (i + 1) row) p
+  pub end_of_key : (xs : List (Bor Entry)) (it : Iter Entry) → Yields deque_iter_steps start xs it → (r : Option (Bor Entry)) (u : Iter Entry) → r ≡ None → deque_iter_steps it r u → length xs ≡ length (queue_at t k)
+  end_of_key xs it y r u e s = (YieldsList-end queued xs it y r u e s).1
 
-    clear_more : clear (marks_of t) (put b true (done_of t)) (drop i row) p ≡ (clear_in p b here_mark.writes es && others)
-    clear_more =
-        at_drop_more (λ ms. clear (marks_of t) (put b true (done_of t)) ms p) row i (record { key = 0; writes = false }) within
-        ∙ clear_cons (marks_of t) (put b true (done_of t)) here_mark (drop (i + 1) row) p
-        ∙ ap (λ x. x && others)
-        (sym (ap (clear_in p b here_mark.writes) queued ∙ clear_in_queue p b here_mark.writes (marks_of t) (done_of t) (slot here_mark.key) (count_of t) (omega (arith, place_within t p i row is within))))
+-- the queues of its keys say whether an order is clear
+module _ (t : Turns) (p b : ℕ) where
+  abbrev clear_at : Mark → Bool
+  clear_at m = clear_in p b m.writes (queue_at t m.key)
 
-    pub clear_stops : false ≡ clear_in p b here_mark.writes es → clear (marks_of t) (put b true (done_of t)) (drop i row) p ≡ false
-    clear_stops f = clear_more ∙ ap (λ x. x && others) (sym f)
+  clear_all : (ms : List Mark) → p ≤ count_of t → list_all clear_at ms ≡ clear (marks_of t) (put b true (done_of t)) ms p
+  clear_all [] l = sym (clear_none (marks_of t) (put b true (done_of t)) p)
+  clear_all (m ∷ ms) l =
+      ap (λ a. clear_at m && a) (clear_all ms l)
+      ∙ ap (λ a. a && clear (marks_of t) (put b true (done_of t)) ms p) (clear_in_queue p b m.writes (marks_of t) (done_of t) (slot m.key) (count_of t) l)
+      ∙ sym (clear_cons (marks_of t) (put b true (done_of t)) m ms p)
 
-    pub clear_goes_on : true ≡ clear_in p b here_mark.writes es → clear (marks_of t) (put b true (done_of t)) (drop i row) p ≡ others
-    clear_goes_on f = clear_more ∙ ap (λ x. x && others) (sym f)
-
-pub clear_end : (marks : ℕ → List Mark) (done : ℕ → Bool) (p i : ℕ) (row : List Mark) → length row ≤ i → clear marks done (drop i row) p ≡ true
-clear_end marks done p i row l = at_drop_all (λ ms. clear marks done ms p) row i l ∙ clear_none marks done p
+  pub ready_all : list_all clear_at (marks_of t p) ≡ ready (marks_of t) (put b true (done_of t)) p
+  ready_all =
+      elim (cases_lt p (count_of t)) [
+        | inl l ↦ clear_all (marks_of t p) (omega arith)
+        | inr l ↦ let none : marks_of t p ≡ [] = get_or_past (rows_of t.marks) p [] (omega arith) in ap (list_all clear_at) none ∙ sym (ap (λ ms. clear (marks_of t) (put b true (done_of t)) ms p) none ∙ clear_none (marks_of t) (put b true (done_of t)) p)
+      ]

@@ -1,5 +1,5 @@
 -- Who may go on once an order is done, as it is found from queue to queue.
-use Rattle.std.proofs.Common.{◌≡◌, ℕ, zero, suc, ◌+◌, ◌<◌, ◌≤◌, Bool, true, false, cond, not, ◌&&◌, ◌||◌, eqb, List, [], ◌∷◌, length, get_or, drop, IfOk, IfErr, Ok, Err, Result, sym, refl, ap, ◌∙◌, inl, inr, arith}
+use Rattle.std.proofs.Common.{◌≡◌, ℕ, zero, suc, ◌+◌, ◌<◌, ◌≤◌, Bool, true, false, cond, not, ◌&&◌, ◌||◌, eqb, List, [], ◌∷◌, length, get_or, drop, IfErr, Ok, Err, Result, sym, refl, ap, ◌∙◌, subst, inl, inr, arith}
 use Rattle.std.specs.List.{AllByRecursion}
 use Rattle.std.proofs.ByRecursion.{All-append, All-weaker, All-get_or}
 use Rattle.std.proofs.lemmas.List.{at_drop_more, at_drop_all}
@@ -33,10 +33,6 @@ follows false true h = h refl
 follows false false h = refl
 
 -- what holds whatever a call answers
-pub made_anyway : {X Y : Type 0} (r : Result X Y) (P : Type 0) → P → IfOk r (λ _. P)
-made_anyway (Ok x) P p = p
-made_anyway (Err y) P p = tt
-
 pub refused_anyway : {X Y : Type 0} (r : Result X Y) (P : Type 0) → P → IfErr r (λ _. P)
 refused_anyway (Ok x) P p = tt
 refused_anyway (Err y) P p = p
@@ -97,45 +93,40 @@ module _ (marks : ℕ → List Mark) (done : ℕ → Bool) where
       (All-weaker (λ (e : Entry). (e.place < n) × (done e.place ≡ false)) (λ (e : Entry). (e.place < suc n) × (done e.place ≡ false)) (λ e h. (omega (arith, h.0), h.1)) (queue marks done q n) (queue_undone q n))
       (cond_both (done n) [] (entered q n (marks n)) (Undone (suc n)) (λ _. tt) (λ d. entered_undone q n (suc n) (marks n) (omega arith) d))
 
-pub entry_undone : (t : Turns) (k i : ℕ) (es : List Entry) → es ≡ queue_at t k → i < length es → ((get_or es i (entry 0 false)).place < count_of t) × (done_of t (get_or es i (entry 0 false)).place ≡ false)
-entry_undone t k i es is l =
-    let n : i < length (queue_at t k) = omega (arith, ap length is) in
-    let r = All-get_or (λ (e : Entry). (e.place < count_of t) × (done_of t e.place ≡ false)) (queue_at t k) i (entry 0 false) n (queue_undone (marks_of t) (done_of t) (slot k) (count_of t)) in
-    let same : (get_or es i (entry 0 false)).place ≡ (get_or (queue_at t k) i (entry 0 false)).place = ap (λ (xs : List Entry). (get_or xs i (entry 0 false)).place) is in
-    (omega (arith, r.0, same), ap (done_of t) same ∙ r.1)
+pub entry_undone : (t : Turns) (k i : ℕ) (e : Entry) → i < length (queue_at t k) → e ≡ get_or (queue_at t k) i e → (e.place < count_of t) × (done_of t e.place ≡ false)
+entry_undone t k i e l is =
+    let P : Entry → Type 0 = λ d. (d.place < count_of t) × (done_of t d.place ≡ false) in
+    subst P (sym is) (All-get_or P (queue_at t k) i e l (queue_undone (marks_of t) (done_of t) (slot k) (count_of t)))
 
--- one entry of a queue, that is passed or that may be woken
-module _ (p : ℕ) (v : Bool) (f : ℕ → Bool) (es : List Entry) (i : ℕ) (within : i < length es) where
-  abbrev here : Entry
-  here = get_or es i (entry 0 false)
-
+-- the entry e at i of a queue, that is passed or that may be woken
+module _ (p : ℕ) (v : Bool) (f : ℕ → Bool) (es : List Entry) (i : ℕ) (e : Entry) (within : i < length es) (is : e ≡ get_or es i e) where
   abbrev rest : List ℕ
   rest = next_in p v (drop (i + 1) es)
 
-  next_in_more : next_in p v (drop i es) ≡ cond (eqb here.place p) rest (here.place ∷ cond (v && not here.writes) rest [])
+  next_in_more : next_in p v (drop i es) ≡ cond (eqb e.place p) rest (e.place ∷ cond (v && not e.writes) rest [])
   unfolding next_in
-  next_in_more = at_drop_more (next_in p v) es i (entry 0 false) within
+  next_in_more = at_drop_more (next_in p v) es i e within ∙ ap (λ (d : Entry). cond (eqb d.place p) rest (d.place ∷ cond (v && not d.writes) rest [])) (sym is)
 
-  pub next_own : here.place ≡ p → (j : ℕ) (x : Bool) → ((is_in j rest && f j) || x) ≡ ((is_in j (next_in p v (drop i es)) && f j) || x)
+  pub next_own : e.place ≡ p → (j : ℕ) (x : Bool) → ((is_in j rest && f j) || x) ≡ ((is_in j (next_in p v (drop i es)) && f j) || x)
   next_own own j x =
-      sym (ap (λ (js : List ℕ). (is_in j js && f j) || x) (next_in_more ∙ cond-true (eqb here.place p) rest (here.place ∷ cond (v && not here.writes) rest []) (eq-eqb here.place p own)))
+      sym (ap (λ (js : List ℕ). (is_in j js && f j) || x) (next_in_more ∙ cond-true (eqb e.place p) rest (e.place ∷ cond (v && not e.writes) rest []) (eq-eqb e.place p own)))
 
-  next_other : (here.place ≡ p → ⊥) → next_in p v (drop i es) ≡ here.place ∷ cond (v && not here.writes) rest []
-  next_other other = next_in_more ∙ cond-false (eqb here.place p) rest (here.place ∷ cond (v && not here.writes) rest []) (ne_eqb here.place p other)
+  next_other : (e.place ≡ p → ⊥) → next_in p v (drop i es) ≡ e.place ∷ cond (v && not e.writes) rest []
+  next_other other = next_in_more ∙ cond-false (eqb e.place p) rest (e.place ∷ cond (v && not e.writes) rest []) (ne_eqb e.place p other)
 
-  pub next_last : (here.place ≡ p → ⊥) → (v && not here.writes) ≡ false → (j : ℕ) (x y : Bool) → y ≡ ((is_in j (here.place ∷ []) && f j) || x) → y ≡ ((is_in j (next_in p v (drop i es)) && f j) || x)
+  pub next_last : (e.place ≡ p → ⊥) → (v && not e.writes) ≡ false → (j : ℕ) (x y : Bool) → y ≡ ((is_in j (e.place ∷ []) && f j) || x) → y ≡ ((is_in j (next_in p v (drop i es)) && f j) || x)
   next_last other last j x y woken =
-      woken ∙ sym (ap (λ (js : List ℕ). (is_in j js && f j) || x) (next_other other ∙ ap (λ (js : List ℕ). here.place ∷ js) (cond-false (v && not here.writes) rest [] last)))
+      woken ∙ sym (ap (λ (js : List ℕ). (is_in j js && f j) || x) (next_other other ∙ ap (λ (js : List ℕ). e.place ∷ js) (cond-false (v && not e.writes) rest [] last)))
 
-  pub next_further : (here.place ≡ p → ⊥) → v ≡ true → here.writes ≡ false → (j : ℕ) (x y : Bool) → y ≡ ((is_in j (here.place ∷ []) && f j) || x) → ((is_in j rest && f j) || y) ≡ ((is_in j (next_in p v (drop i es)) && f j) || x)
+  pub next_further : (e.place ≡ p → ⊥) → v ≡ true → e.writes ≡ false → (j : ℕ) (x y : Bool) → y ≡ ((is_in j (e.place ∷ []) && f j) || x) → ((is_in j rest && f j) || y) ≡ ((is_in j (next_in p v (drop i es)) && f j) || x)
   next_further other writes reads j x y woken =
       ap (λ b. (is_in j rest && f j) || b) woken
-      ∙ ap (λ b. (is_in j rest && f j) || ((b && f j) || x)) (or_false (eqb j here.place))
-      ∙ joins (eqb j here.place) (is_in j rest) (f j) x
-      ∙ sym (ap (λ (js : List ℕ). (is_in j js && f j) || x) (next_other other ∙ ap (λ (js : List ℕ). here.place ∷ js) (cond-true (v && not here.writes) rest [] further)))
+      ∙ ap (λ b. (is_in j rest && f j) || ((b && f j) || x)) (or_false (eqb j e.place))
+      ∙ joins (eqb j e.place) (is_in j rest) (f j) x
+      ∙ sym (ap (λ (js : List ℕ). (is_in j js && f j) || x) (next_other other ∙ ap (λ (js : List ℕ). e.place ∷ js) (cond-true (v && not e.writes) rest [] further)))
     where
-      further : (v && not here.writes) ≡ true
-      further = ap (λ b. b && not here.writes) writes ∙ ap not reads
+      further : (v && not e.writes) ≡ true
+      further = ap (λ b. b && not e.writes) writes ∙ ap not reads
 
 pub next_end : (p : ℕ) (v : Bool) (f : ℕ → Bool) (es : List Entry) (i : ℕ) → length es ≤ i → (j : ℕ) (x : Bool) → x ≡ ((is_in j (next_in p v (drop i es)) && f j) || x)
 unfolding next_in

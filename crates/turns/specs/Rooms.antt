@@ -4,7 +4,8 @@
 --   Roomy qs n ms    the queues of the marks ms have room for n entries more
 --   Cramped qs ms    one of them has not room for an entry for each of ms
 -- Assumes nothing.
-use Rattle.std.specs.Prelude.{◌≡◌, ℕ, ◌-◌, ◌<◌, ◌≤◌, List, [], map, length, vec_len, vec_capacity, slice_index}
+use Rattle.std.specs.Prelude.{◌≡◌, ℕ, ◌-◌, ◌<◌, ◌≤◌, List, [], map, length, slice_index}
+use Rattle.std.specs.VecDeque.{deque_len, deque_capacity}
 use Rattle.std.specs.List.{ContainsAt as Has, AllByRecursion}
 use Rattle.turns.specs.Entries.{entries_in}
 use Rattle.turns.specs.Marks.{slot}
@@ -12,7 +13,7 @@ use Rattle.turns.specs.declared.entry.Mark.{Mark}
 use Rattle.turns.specs.declared.queue.Queue.{Queue}
 
 abbrev pub room_in : Queue → ℕ
-room_in q = vec_capacity q.items - vec_len q.items
+room_in q = deque_capacity q.entries - deque_len q.entries
 
 abbrev pub room_at : List Queue → ℕ → ℕ
 room_at qs s = slice_index (map room_in qs) s

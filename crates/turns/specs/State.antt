@@ -36,7 +36,7 @@ abbrev pub Same : Turns → Turns → Type 0
 Same t u = (rows_of u.marks ≡ rows_of t.marks) × (vec_items u.done ≡ vec_items t.done)
 
 abbrev pub Wants : Turns → List Mark → Type 0
-Wants t ms = Wanting t.marks (length ms) ⊎ ((vec_capacity t.done < vec_len t.done + 1) ⊎ Cramped (vec_items t.queues) ms)
+Wants t ms = Wanting t.marks (length ms) ⊎ ((vec_capacity t.done < vec_len t.done + 1) ⊎ Cramped (vec_items t.queues.by_key) ms)
 
 abbrev pub Refuses : TurnsError → Turns → List Mark → Type 0
 Refuses Full t ms = 4294967295 ≤ count_of t

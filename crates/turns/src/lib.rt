@@ -3,10 +3,13 @@
 
 mod entry;
 mod error;
+mod keys;
 mod places;
 mod queue;
+mod queues;
 mod turns;
 
 pub use entry::Mark;
 pub use error::TurnsError;
+pub use keys::{KEYS, slot};
 pub use turns::Turns;

@@ -7,15 +7,14 @@ ghost use Rattle.ledger.specs.Own.{owns, marked, known};
 ghost use Rattle.ledger.specs.State.{contents_in, value_in, may_look, may_write, CanLook, CanWrite, looked_at};
 
 use super::Ledger;
-use crate::keys::is_own;
 use orders::Order;
 use std::alloc::{AllocError, Global};
 
 impl Ledger {
     pub fn number(&self) -> u8
-        ensures { result ≡ self.now.number }
+        ensures { result ≡ self.now.owner.number }
     {
-        self.number
+        self.owner.number()
     }
 
     // How many orders of the log it has.
@@ -27,12 +26,12 @@ impl Ledger {
 
     // The value of a key of the house; none where it is another's.
     pub fn value(&self, key: u16) -> Option<u32>
-        ensures { MatchOption result (owns self.now.number key ≡ false) (λ v. (owns self.now.number key ≡ true) × (v ≡ value_in self.now key)) }
+        ensures { MatchOption result (owns self.now.owner.number key ≡ false) (λ v. (owns self.now.owner.number key ≡ true) × (v ≡ value_in self.now key)) }
     {
-        if !is_own(self.number, key) {
+        if !self.owner.owns(key) {
             return None;
         }
-        Some(self.values[usize::from(key) / 16])
+        Some(self.values.get(key))
     }
 
     // Whether it may look for the order at a place: it reads a key here, is not noted yet, and is ready.
@@ -40,13 +39,7 @@ impl Ledger {
         ensures is { result ≡ may_look self.now place }
         ensures exact { Decides result (CanLook self.now place) }
     {
-        if !self.touches(place, false) {
-            return false;
-        }
-        if self.is_noted(place) {
-            return false;
-        }
-        self.turns.is_ready(place)
+        self.touches(place, false) && !self.is_noted(place) && self.turns.is_ready(place)
     }
 
     // Whether it may write for the order at a place: it writes a key here, is not done yet, all that it reads is known, and it is ready.
@@ -54,49 +47,33 @@ impl Ledger {
         ensures is { result ≡ may_write self.now place }
         ensures exact { Decides result (CanWrite self.now place) }
     {
-        if !self.touches(place, true) {
-            return false;
-        }
-        if self.is_done(place) {
-            return false;
-        }
-        if !self.has_looked(place) {
-            return false;
-        }
-        if !self.turns.is_ready(place) {
-            return false;
-        }
-        all_known(self.slots.row(place as usize))
+        self.touches(place, true)
+            && !self.is_done(place)
+            && self.has_looked(place)
+            && self.turns.is_ready(place)
+            && all_known(self.slots.row(place as usize))
     }
 
     // Whether it has noted what the order at a place reads here, if that is anything.
     fn has_looked(&self, place: u32) -> bool
         ensures { result ≡ (looked_at self.now place || not (marked false (marks_of self.now.turns place))) }
     {
-        if !self.touches(place, false) {
-            return true;
-        }
-        self.is_noted(place)
+        self.is_noted(place) || !self.touches(place, false)
     }
 
     // Whether the order at a place writes, or reads, a key of the house.
     pub fn touches(&self, place: u32, writes: bool) -> bool
         ensures { result ≡ marked writes (marks_of self.now.turns place) }
     {
-        for mark in self.turns.marks(place) {
-            if mark.writes == writes {
-                return true;
-            }
-        }
-        false
+        let marks = self.turns.marks(place);
+        marks.iter().any(|mark| mark.writes == writes)
     }
 
     // Whether the house has noted its part of what the order at a place reads.
     pub fn is_noted(&self, place: u32) -> bool
         ensures { result ≡ looked_at self.now place }
     {
-        let at = place as usize;
-        at < self.looked.len() && self.looked[at]
+        self.looked.get(place as usize).copied().unwrap_or(false)
     }
 
     // Whether the order at a place is done in the house.
@@ -127,10 +104,5 @@ impl Ledger {
 fn all_known(slots: &[Option<u32>]) -> bool
     ensures { result ≡ known slots.now }
 {
-    for slot in slots {
-        if slot.is_none() {
-            return false;
-        }
-    }
-    true
+    slots.iter().all(|slot| slot.is_some())
 }

@@ -1,5 +1,6 @@
 // Looking: the read phase of an order.
 ghost use Rattle.std.specs.Prelude.{◌≡◌, ◌<◌, ◌≤◌, true, false, [], map, length, vec_len, filter, MatchResult, slice_index_or, slice_set};
+ghost use Rattle.orders.specs.Contents.{keys_of};
 ghost use Rattle.rows.specs.Lists.{rows_of};
 ghost use Rattle.ledger.specs.Notes.{values_of};
 ghost use Rattle.ledger.specs.Own.{owns, noting, slot_in};
@@ -7,9 +8,11 @@ ghost use Rattle.ledger.specs.State.{Looked, may_look};
 ghost use Rattle.ledger.specs.declared.refusal.Refusal.TheVariants.{NotYet};
 
 use super::Ledger;
-use crate::keys::is_own;
 use crate::note::Note;
+use crate::owner::Owner;
 use crate::refusal::Refusal;
+use crate::values::Values;
+use orders::KeySet;
 use rows::Rows;
 
 impl Ledger {
@@ -24,9 +27,9 @@ impl Ledger {
         let writes = self.touches(place, true);
         let at = place as usize;
         let note = take_note(
-            self.number,
-            order.reads(),
-            self.values.as_slice(),
+            self.owner,
+            order.read_set(),
+            &self.values,
             &mut self.slots,
             at,
         );
@@ -38,23 +41,22 @@ impl Ledger {
     }
 }
 
-// Copies the values of the house's own keys among some keys into the slots of the order at an index.
+// Copies the values of the house's own keys among some keys into the slots of the order at an index. The row is named by its
+// index, as the block lends no row to write in.
 fn take_note(
-    number: u8,
-    keys: &[u16],
-    values: &[u32],
+    owner: Owner,
+    keys: &KeySet,
+    values: &Values,
     slots: &mut Rows<Option<u32>>,
     index: usize,
 ) -> Note
-    requires sized { length values.now ≡ 4096 }
-    requires few { length keys.now ≤ 16 }
-    ensures noted { values_of result ≡ map (λ k. slot_in values.now k) (filter (owns number) keys.now) }
-    ensures slots { rows_of slots.new ≡ slice_set (rows_of slots.old) index (noting number (λ k. slot_in values.now k) keys.now (slice_index_or (rows_of slots.old) index [])) }
+    ensures noted { values_of result ≡ map (λ k. slot_in values.now.own.items k) (filter (owns owner.number) (keys_of keys.now)) }
+    ensures slots { rows_of slots.new ≡ slice_set (rows_of slots.old) index (noting owner.number (λ k. slot_in values.now.own.items k) (keys_of keys.now) (slice_index_or (rows_of slots.old) index [])) }
 {
     let mut note = Note::empty();
-    for (i, key) in keys.iter().enumerate() {
-        if is_own(number, *key) {
-            let value = values[usize::from(*key) / 16];
+    for (i, key) in keys.as_slice().iter().enumerate() {
+        if owner.owns(*key) {
+            let value = values.get(*key);
             slots.set(index, i, Some(value));
             note.push(value);
         }

@@ -6,10 +6,8 @@ ghost use Rattle.line.specs.Frames.{frames, framed};
 use super::{Log, LogError};
 use std::alloc::Global;
 
-// Places are below this.
-pub const LIMIT: u32 = 4_294_967_295;
-
 impl Log {
+    #[tactic(auto, using(crate::proofs::Framing::whole_nil, crate::proofs::Framing::frames_short))]
     pub fn new(heap: Global) -> Log
         ensures { result.bytes.items ≡ [] }
     {
@@ -27,7 +25,7 @@ impl Log {
             return Err(LogError::Oversize);
         };
         let place = self.len;
-        if place >= LIMIT {
+        if place == u32::MAX {
             return Err(LogError::Full);
         }
         self.bytes.reserve(2 + order.len())?;

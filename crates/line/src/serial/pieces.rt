@@ -28,6 +28,7 @@ impl Execution {
             .reserve(self.rest.len() / 2 + piece.len() / 2 + 1)?;
         self.rest.extend_from_slice(piece)?;
         let count = self.progress.run(self.rest.as_slice());
+        // `drain` says the same, but it turns all the bytes round and was measured to be slower
         let left = self.rest.len() - count;
         self.rest.copy_within(count.., 0);
         self.rest.truncate(left);

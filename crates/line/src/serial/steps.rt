@@ -5,7 +5,6 @@ ghost use Rattle.line.specs.Serial.{start, state_of, next_place, doing, entries_
 
 use super::Progress;
 use crate::frames::Frames;
-use crate::log::LIMIT;
 use crate::store::Store;
 use orders::Order;
 use std::alloc::{AllocError, Global};
@@ -38,16 +37,15 @@ impl Progress {
         ensures takes { result ≡ extent (entries_from (next_place (state_of self.old)) bytes.now) }
         ensures within { result ≤ length bytes.now }
     {
-        let mut frames = Frames::new(bytes);
         let mut decoded = Order::idle();
+        let mut taken = 0;
         let first = self.done + self.malformed.len() as u32;
-        for place in first..LIMIT {
-            let Some(order) = frames.next() else {
-                break;
-            };
+        for (place, order) in (first..u32::MAX).zip(Frames::new(bytes)) {
             self.step(place, order, &mut decoded);
+            // behind its length in two bytes
+            taken += 2 + order.len();
         }
-        bytes.len() - frames.rest().len()
+        taken
     }
 
     // Does the next order, decoded into the room that is lent; one that is malformed is noted and does nothing.

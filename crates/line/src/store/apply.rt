@@ -1,14 +1,13 @@
 // Orders done one at a time.
-ghost use Rattle.std.specs.Prelude.{◌≡◌, ℕ, ◌≤◌, true, false, map, length, replicate, IfOk};
-ghost use Rattle.orders.specs.Contents.{contents_of};
-ghost use Rattle.orders.specs.Meaning.{meaning, padded};
+ghost use Rattle.std.specs.Prelude.{◌≡◌, ℕ, true, false, map, IfOk};
+ghost use Rattle.orders.specs.Contents.{contents_of, keys_of};
+ghost use Rattle.orders.specs.Meaning.{meaning};
 ghost use Rattle.orders.specs.Transaction.{after, lookup, is_in};
-ghost use Rattle.orders.specs.Valid.{rising};
 ghost use Rattle.line.specs.Serial.{values_in};
 
 use super::Store;
-use interpreter::{Ending, run_in};
-use orders::Order;
+use interpreter::run;
+use orders::{KeySet, Order, Outcome};
 use std::alloc::{AllocError, Global};
 
 impl Store {
@@ -31,34 +30,30 @@ impl Store {
         ensures leaves { values_in self.new ≡ after (meaning (contents_of order.now)) (values_in self.old) }
         ensures elsewhere { (k : ℕ) → is_in k (contents_of order.now).writes ≡ false → values_in self.new k ≡ values_in self.old k }
     {
-        let mut registers = [0; 32];
-        self.read(order.reads(), &mut registers);
-        let mut written = [0; 16];
-        match run_in(order, &mut registers, &mut written) {
-            Ending::Writes => self.write(order.writes(), &written),
-            Ending::Nothing => {}
+        let mut room = [0; 16];
+        match run(order, self.read(order.read_set(), &mut room)) {
+            Outcome::Writes(written) => self.write(order.write_set(), &written),
+            Outcome::Nothing => {}
         }
     }
 
-    // The values of some keys, in front of zeros.
-    fn read(&self, keys: &[u16], registers: &mut [u32; 32])
-        requires few { length keys.now ≤ 16 }
-        requires zeros { registers.old ≡ replicate 32 0 }
-        ensures { registers.new ≡ padded 32 (map (values_in self.now) keys.now) }
+    // The values of some keys, in the room that is lent.
+    fn read<'a>(&self, keys: &KeySet, room: &'a mut [u32; 16]) -> &'a [u32]
+        ensures { result.now ≡ map (values_in self.now) (keys_of keys.now) }
     {
-        for i in 0..keys.len() {
-            registers[i] = self.values[usize::from(keys[i])];
+        let keys = keys.as_slice();
+        for (i, key) in keys.iter().enumerate() {
+            room[i] = self.get(*key);
         }
+        &room[..keys.len()]
     }
 
     // Overwrites some keys, the one place where a value changes.
-    fn write(&mut self, keys: &[u16], values: &[u32; 16])
-        requires few { length keys.now ≤ 16 }
-        requires rises { rising 0 keys.now ≡ true }
-        ensures { (k : ℕ) → values_in self.new k ≡ lookup keys.now values.now k (values_in self.old k) }
+    fn write(&mut self, keys: &KeySet, values: &[u32; 16])
+        ensures { (k : ℕ) → values_in self.new k ≡ lookup (keys_of keys.now) values.now k (values_in self.old k) }
     {
-        for i in 0..keys.len() {
-            self.values[usize::from(keys[i])] = values[i];
+        for (key, value) in keys.as_slice().iter().zip(values) {
+            self.values[usize::from(*key)] = *value;
         }
     }
 }

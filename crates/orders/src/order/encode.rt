@@ -1,5 +1,5 @@
 // The bytes of an order.
-ghost use Rattle.std.specs.Prelude.{◌≡◌, ◌≤◌, ◌++◌, length, IfOk, Some, OnOk};
+ghost use Rattle.std.specs.Prelude.{◌≡◌, ℕ, ◌<◌, List, ◌++◌, length, IfOk, Some, OnOk};
 ghost use Rattle.orders.specs.Codec.{two, counted, encoded, decoded, instruction_bytes};
 ghost use Rattle.orders.specs.Contents.{contents_of};
 
@@ -13,51 +13,63 @@ impl Order {
         ensures { IfOk result (λ v. (v.items ≡ encoded (contents_of self.now)) × (decoded v.items ≡ Some (contents_of self.now))) }
     {
         let mut out = Vec::new(heap);
-        write_keys(&mut out, self.reads())?;
-        write_keys(&mut out, self.writes())?;
-        write_code(&mut out, self.code())?;
+        write_list(&mut out, self.reads())?;
+        write_list(&mut out, self.writes())?;
+        write_list(&mut out, self.code())?;
         Ok(out)
     }
 }
 
-fn write_keys(out: &mut Vec<u8>, keys: &[u16]) -> Result<(), AllocError>
-    requires { length keys.now ≤ 16 }
-    ensures { OnOk result (out.new.items ≡ out.old.items ++ counted two keys.now) }
-{
-    out.push(keys.len() as u8)?;
-    for key in keys {
-        out.extend_from_slice(&key.to_be_bytes())?;
-    }
-    Ok(())
+// How one item of a list is written.
+trait Written: Copy {
+    ghost bytes: { Self → List ℕ };
+
+    fn write(self, out: &mut Vec<u8>) -> Result<(), AllocError>
+        ensures { OnOk result (out.new.items ≡ out.old.items ++ bytes self) };
 }
 
-fn write_code(out: &mut Vec<u8>, code: &[Instruction]) -> Result<(), AllocError>
-    requires { length code.now ≤ 64 }
-    ensures { OnOk result (out.new.items ≡ out.old.items ++ counted instruction_bytes code.now) }
-{
-    out.push(code.len() as u8)?;
-    for instruction in code {
-        write_instruction(out, *instruction)?;
+impl Written for u16 {
+    ghost bytes = { two };
+
+    fn write(self, out: &mut Vec<u8>) -> Result<(), AllocError> {
+        out.extend_from_slice(&self.to_be_bytes())
     }
-    Ok(())
 }
 
-fn write_instruction(out: &mut Vec<u8>, instruction: Instruction) -> Result<(), AllocError>
-    ensures { OnOk result (out.new.items ≡ out.old.items ++ instruction_bytes instruction) }
-{
-    match instruction {
-        Instruction::Add { to, left, right } => out.extend_from_slice(&[1, to, left, right]),
-        Instruction::Subtract { to, left, right } => out.extend_from_slice(&[2, to, left, right]),
-        Instruction::Multiply { to, left, right } => out.extend_from_slice(&[3, to, left, right]),
-        Instruction::Divide { to, left, right } => out.extend_from_slice(&[4, to, left, right]),
-        Instruction::Set { to, number } => {
-            let [a, b, c, d] = number.to_be_bytes();
-            out.extend_from_slice(&[5, to, a, b, c, d])
+impl Written for Instruction {
+    ghost bytes = { instruction_bytes };
+
+    fn write(self, out: &mut Vec<u8>) -> Result<(), AllocError> {
+        match self {
+            Instruction::Add { to, left, right } => out.extend_from_slice(&[1, to, left, right]),
+            Instruction::Subtract { to, left, right } => out.extend_from_slice(&[
+                2, to, left, right,
+            ]),
+            Instruction::Multiply { to, left, right } => out.extend_from_slice(&[
+                3, to, left, right,
+            ]),
+            Instruction::Divide { to, left, right } => out.extend_from_slice(&[4, to, left, right]),
+            Instruction::Set { to, number } => {
+                let [a, b, c, d] = number.to_be_bytes();
+                out.extend_from_slice(&[5, to, a, b, c, d])
+            }
+            Instruction::SkipIfBelow { left, right, count } => out.extend_from_slice(&[
+                6, left, right, count,
+            ]),
+            Instruction::Write { slot, from } => out.extend_from_slice(&[7, slot, from]),
+            Instruction::Abort => out.extend_from_slice(&[8]),
         }
-        Instruction::SkipIfBelow { left, right, count } => out.extend_from_slice(&[
-            6, left, right, count,
-        ]),
-        Instruction::Write { slot, from } => out.extend_from_slice(&[7, slot, from]),
-        Instruction::Abort => out.extend_from_slice(&[8]),
     }
+}
+
+// The items behind their count.
+fn write_list<T: Written>(out: &mut Vec<u8>, items: &[T]) -> Result<(), AllocError>
+    requires { length items.now < 256 }
+    ensures { OnOk result (out.new.items ≡ out.old.items ++ counted T.bytes items.now) }
+{
+    out.push(items.len() as u8)?;
+    for item in items {
+        item.write(out)?;
+    }
+    Ok(())
 }

@@ -58,7 +58,8 @@ impl House {
     }
 }
 
-// Lists what may be done now for the orders at some places.
+// Lists what may be done now for the orders at some places. It takes the ledger and the list, and no house, since what a house says of
+// them does not hold in between.
 pub(super) fn list_all(ledger: &Ledger, places: &[u32], tasks: &mut VecDeque<Task>)
     requires { deque_len tasks.old + length places.now ≤ deque_capacity tasks.old }
     ensures { tasks.new.items ≡ tasks.old.items ++ tasks_at ledger.now places.now }

@@ -1,12 +1,12 @@
 // What may be done now, and doing it.
-ghost use Rattle.std.specs.Prelude.{◌≡◌, IfOk, MatchResult};
+ghost use Rattle.std.specs.Prelude.{◌≡◌, [], IfOk, MatchResult};
+ghost use Rattle.std.specs.Result.{result_err};
 ghost use Rattle.ledger.specs.declared.refusal.Refusal.TheVariants.{Memory};
 ghost use Rattle.shard.specs.State.{ready_of, Does, Extends, Goes, Next, RefusesTask, Unmoved};
-ghost use Rattle.shard.specs.Tasks.{live};
 
 use super::{House, Went};
 use crate::task::Task;
-use ledger::{Ledger, Refusal};
+use ledger::Refusal;
 use std::alloc::AllocError;
 
 impl House {
@@ -14,33 +14,36 @@ impl House {
     pub fn ready(&self) -> Result<Vec<Task>, AllocError>
         ensures { IfOk result (λ v. v.items ≡ ready_of self.now) }
     {
-        let mut ready = Vec::new(self.heap);
-        for task in self.tasks.iter() {
-            if is_live(&self.ledger, *task) {
-                ready.push(*task)?;
-            }
-        }
-        Ok(ready)
+        let live = self
+            .tasks
+            .iter()
+            .copied()
+            .filter(|task| task.is_live(&self.ledger));
+        live.collect(self.heap)
     }
 
     // Of the looks and writes that may be done when it begins it does the first so many, in that order, and nothing else.
     pub fn go(&mut self, count: usize) -> Went
         ensures { Goes count self.old self.new result }
     {
-        let mut went = Went {
-            done: Vec::new(self.heap),
-            refusal: None,
-        };
+        let mut done = Vec::new(self.heap);
+        let refusal = self.go_on(count, &mut done).err();
+        Went { done, refusal }
+    }
+
+    // Goes through the tasks that are listed when it begins, until so many are done. What is listed on the way is for the next
+    // go, so the rounds are counted before the first.
+    fn go_on(&mut self, count: usize, done: &mut Vec<Task>) -> Result<(), Refusal>
+        requires { done.old.items ≡ [] }
+        ensures { Goes count self.old self.new (record { done = done.new; refusal = result_err result }) }
+    {
         for _ in 0..self.tasks.len() {
-            if went.done.len() >= count {
+            if done.len() >= count {
                 break;
             }
-            if let Err(e) = self.next(&mut went.done) {
-                went.refusal = Some(e);
-                break;
-            }
+            self.next(done)?;
         }
-        went
+        Ok(())
     }
 
     // Takes the first task off the list, and does it unless it was done before.
@@ -50,7 +53,7 @@ impl House {
         let Some(task) = self.tasks.front().copied() else {
             return Ok(());
         };
-        if is_live(&self.ledger, task) {
+        if task.is_live(&self.ledger) {
             done.reserve(1)?;
             self.perform(task)?;
             done.push_reserved(task);
@@ -71,15 +74,5 @@ impl House {
             }
         }
         Ok(())
-    }
-}
-
-// Whether a task is still to be done.
-fn is_live(ledger: &Ledger, task: Task) -> bool
-    ensures { result ≡ live ledger.now task }
-{
-    match task {
-        Task::Look(place) => !ledger.is_noted(place),
-        Task::Write(place) => !ledger.is_done(place),
     }
 }

@@ -1,19 +1,15 @@
-use Rattle.std.proofs.Common.{◌+◌, drop, sym, ap, ◌∙◌}
-use Rattle.std.proofs.lemmas.List.{at_drop_all}
-use Rattle.solo.specs.Number.{read_on}
-use Rattle.solo.proofs.Numbers.{read_goes_on, read_off}
+use Rattle.std.proofs.Common.{◌∙◌, sym, arith}
+use Rattle.std.proofs.lemmas.Str.Parse.{parse_plain}
+use Rattle.std.proofs.lemmas.Str.Pattern.{starts_char}
+use Rattle.solo.proofs.Numbers.{own, number_parsed, number_signed}
 use Rattle.solo.proofs.script.number.Goals as goal
 
-pub returns-in_default : goal.returns-in_default
-returns-in_default c =
-    sym (read_off c.loop-byte.number c.loop-byte.byte-index c.args.word.now c.loop-byte-test.true c.in_default.ensures)
-    ∙ c.loop-byte.invariant
-
-pub loop-byte-preserved : goal.loop-byte-preserved
-loop-byte-preserved c =
-    ap (λ n. read_on n (drop (c.loop-byte.byte-index + 1) c.args.word.now)) c.in-Some.ensures.1
-    ∙ read_goes_on c.loop-byte.number c.loop-byte.byte-index c.args.word.now c.loop-byte-test.true c.in-Some.ensures.0
-    ∙ c.loop-byte.invariant
+pub returns-then-starts_with : goal.returns-then-starts_with
+returns-then-starts_with c =
+    let plus = starts_char 43 c.args.word.now c.starts_with.result c.starts_with.ensures.cases (omega arith) (omega arith) in
+    sym (number_signed c.args.word.now (plus.0 c.if-starts_with.true))
 
 pub returns : goal.returns
-returns c = sym (at_drop_all (read_on c.loop-byte.number) c.args.word.now c.loop-byte.byte-index c.loop-byte-test.false) ∙ c.loop-byte.invariant
+returns c =
+    let plus = starts_char 43 c.args.word.now c.starts_with.result c.starts_with.ensures.cases (omega arith) (omega arith) in
+    c.ok.ensures.value ∙ number_parsed c.args.word.now c.parse.result (parse_plain own 32 c.args.word.now _ c.parse.ensures.value.0 (λ h. cc (plus.1 h)))

@@ -1,5 +1,5 @@
-use Rattle.std.proofs.Common.{◌≡◌, ◌+◌, false, [], ◌∷◌, ◌++◌, length, take, vec_items, vec_len, sym, refl, ap, ◌∙◌, subst, inl, inr, arith}
-use Rattle.std.proofs.lemmas.List.{length-take-le}
+use Rattle.std.proofs.Common.{◌≡◌, ◌+◌, false, [], ◌∷◌, ◌++◌, length, vec_items, vec_len, sym, refl, ap, ◌∙◌, subst, inl, inr, arith}
+use Rattle.std.proofs.lemmas.Bool.{eqb-true, eqb-false}
 use Rattle.std.proofs.lemmas.Result.{err_from_is_err_and}
 use Rattle.orders.specs.Contents.{contents_of}
 use Rattle.orders.specs.Meaning.{transaction}
@@ -8,7 +8,7 @@ use Rattle.turns.specs.State.{count_of, Refuses}
 use Rattle.ledger.specs.Own.{marks_for}
 use Rattle.ledger.proofs.Growing.{keys_meant, marks_meant, row_pushed, refused_by_turns, More, Lists, Taken, none, none_long, more_from, lists_of, orders_longer, done_longer, slots_longer, looked_longer, matched_grown, wide_grown, seen_grown, filled_grown, read_grown, grown}
 use Rattle.ledger.proofs.ledger.Ledger.append.Goals as goal
-use Rattle.ledger.proofs.ledger.Ledger.append.Goals.{then-count-eq0, else-count-eq0}
+use Rattle.ledger.proofs.ledger.Ledger.append.Goals.{then-is_empty, else-is_empty}
 
 pub returns-in_err-place : goal.returns-in_err-place
 returns-in_err-place c =
@@ -16,8 +16,8 @@ returns-in_err-place c =
     let s = c.args.self.now in
     let bs = c.args.bytes.now in
     let order = contents_of c.decode_into.new.self in
-    let row = take c.own_marks-count.result c.own_marks-count.new.marks in
-    let meant : row ≡ marks_for s.number (transaction bs) = marks_meant s.number bs order row (keys_meant c.decode_into.result bs order c.decode_into.ensures.finds c.decode_into.ensures.idles) c.own_marks-count.ensures.marks in
+    let row = c.as_slice-marks.result.now in
+    let meant : row ≡ marks_for s.owner.number (transaction bs) = marks_meant s.owner.number bs order row (keys_meant c.decode_into.result bs order c.decode_into.ensures.finds c.decode_into.ensures.idles) (c.as_slice-marks.ensures.is ∙ c.marks-marks.ensures) in
     let e = c.in_err-place.field-0.0 in
     rw (p.1, p.2) (
       record {
@@ -36,21 +36,21 @@ invariant_of-self-2 c =
     let s = c.args.self.now in
     let bs = c.args.bytes.now in
     let order = contents_of c.decode_into.new.self in
-    let n = c.own_marks-count.result in
-    let w = c.if-count-eq0.width in
-    let row = take n c.own_marks-count.new.marks in
+    let n = length c.as_slice-marks.result.now in
+    let w = c.if-is_empty.width in
+    let row = c.as_slice-marks.result.now in
     let taken : Taken s bs row n w =
     record {
       order = order;
       keys = keys_meant c.decode_into.result bs order c.decode_into.ensures.finds c.decode_into.ensures.idles;
-      row_is = c.own_marks-count.ensures.marks;
-      row_long = length-take-le n c.own_marks-count.new.marks (omega (arith, c.own_marks-count.array_long, c.own_marks-count.ensures.few));
-      way = elim c.if-count-eq0.branch [ then-count-eq0 v ↦ inl (v.if-count-eq0.true, v.width-is) | else-count-eq0 v ↦ inr (v.if-count-eq0.false, v.width-is ∙ ap length v.reads.ensures.is) ];
-      few = elim c.if-count-eq0.branch [ then-count-eq0 v ↦ omega (arith, v.width-is) | else-count-eq0 v ↦ omega (arith, v.width-is, v.reads.ensures.few) ];
+      row_is = (c.as_slice-marks.ensures.is ∙ c.marks-marks.ensures);
+      row_long = refl;
+      way = elim c.if-is_empty.branch [ then-is_empty v ↦ inl (eqb-true (length row) 0 (sym c.is_empty.ensures ∙ v.if-is_empty.true), v.width-is) | else-is_empty v ↦ inr (eqb-false (length row) 0 (sym c.is_empty.ensures ∙ v.if-is_empty.false), v.width-is ∙ ap length (v.as_slice.ensures.is ∙ v.read_set.ensures)) ];
+      few = elim c.if-is_empty.branch [ then-is_empty v ↦ omega (arith, v.width-is) | else-is_empty v ↦ omega (arith, v.width-is, v.as_slice.ensures.few) ];
     }
     in
     let b : Lists = record { orders = rows_of c.push.new.self; marks = rows_of c.append.new.self.marks; done = vec_items c.append.new.self.done; slots = rows_of c.push-2.new.self; looked = vec_items c.push_reserved.new.self } in
-    let more : More s.number bs (count_of s.turns) (lists_of s) b =
+    let more : More s.owner.number bs (count_of s.turns) (lists_of s) b =
     more_from s bs row n w taken b
     (row_pushed c.push.result (rows_of s.orders) (rows_of c.reserve.new.self) b.orders bs (c.push.ensures.succeeds c.in_ok-reserve.ensures.room) c.push.ensures.pushed c.reserve.ensures.same)
     c.in_ok-place.ensures.1 c.in_ok-place.ensures.2
@@ -60,11 +60,9 @@ invariant_of-self-2 c =
     in
     let n' : count_of c.append.new.self ≡ count_of s.turns + 1 = c.append.new.self.done.ok.0 ∙ done_longer s bs b more in
     let noted : vec_len c.push_reserved.new.self ≡ count_of s.turns + 1 = c.push_reserved.new.self.ok.0 ∙ looked_longer s bs b more in
-    let h = s.number in
+    let h = s.owner.number in
     let o = lists_of s in
     record {
-      housed = s.housed;
-      sized = s.sized;
       ordered = orders_longer s bs b more ∙ sym n';
       slotted = slots_longer s bs b more ∙ sym n';
       noted = noted ∙ sym n';
@@ -80,21 +78,21 @@ returns c =
     let s = c.args.self.now in
     let bs = c.args.bytes.now in
     let order = contents_of c.decode_into.new.self in
-    let n = c.own_marks-count.result in
-    let w = c.if-count-eq0.width in
-    let row = take n c.own_marks-count.new.marks in
+    let n = length c.as_slice-marks.result.now in
+    let w = c.if-is_empty.width in
+    let row = c.as_slice-marks.result.now in
     let taken : Taken s bs row n w =
     record {
       order = order;
       keys = keys_meant c.decode_into.result bs order c.decode_into.ensures.finds c.decode_into.ensures.idles;
-      row_is = c.own_marks-count.ensures.marks;
-      row_long = length-take-le n c.own_marks-count.new.marks (omega (arith, c.own_marks-count.array_long, c.own_marks-count.ensures.few));
-      way = elim c.if-count-eq0.branch [ then-count-eq0 v ↦ inl (v.if-count-eq0.true, v.width-is) | else-count-eq0 v ↦ inr (v.if-count-eq0.false, v.width-is ∙ ap length v.reads.ensures.is) ];
-      few = elim c.if-count-eq0.branch [ then-count-eq0 v ↦ omega (arith, v.width-is) | else-count-eq0 v ↦ omega (arith, v.width-is, v.reads.ensures.few) ];
+      row_is = (c.as_slice-marks.ensures.is ∙ c.marks-marks.ensures);
+      row_long = refl;
+      way = elim c.if-is_empty.branch [ then-is_empty v ↦ inl (eqb-true (length row) 0 (sym c.is_empty.ensures ∙ v.if-is_empty.true), v.width-is) | else-is_empty v ↦ inr (eqb-false (length row) 0 (sym c.is_empty.ensures ∙ v.if-is_empty.false), v.width-is ∙ ap length (v.as_slice.ensures.is ∙ v.read_set.ensures)) ];
+      few = elim c.if-is_empty.branch [ then-is_empty v ↦ omega (arith, v.width-is) | else-is_empty v ↦ omega (arith, v.width-is, v.as_slice.ensures.few) ];
     }
     in
     let b : Lists = record { orders = rows_of c.push.new.self; marks = rows_of c.append.new.self.marks; done = vec_items c.append.new.self.done; slots = rows_of c.push-2.new.self; looked = vec_items c.push_reserved.new.self } in
-    let more : More s.number bs (count_of s.turns) (lists_of s) b =
+    let more : More s.owner.number bs (count_of s.turns) (lists_of s) b =
     more_from s bs row n w taken b
     (row_pushed c.push.result (rows_of s.orders) (rows_of c.reserve.new.self) b.orders bs (c.push.ensures.succeeds c.in_ok-reserve.ensures.room) c.push.ensures.pushed c.reserve.ensures.same)
     c.in_ok-place.ensures.1 c.in_ok-place.ensures.2

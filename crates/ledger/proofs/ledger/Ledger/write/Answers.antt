@@ -1,9 +1,10 @@
-use Rattle.std.proofs.Common.{◌≡◌, true, vec_items, vec_len, sym, refl, ap, ◌∙◌, arith}
-use Rattle.orders.specs.Meaning.{padded}
-use Rattle.orders.specs.declared.outcome.Outcome.TheVariants.{Nothing, Writes}
+use Rattle.std.proofs.Common.{◌≡◌, true, length, vec_items, sym, refl, ap, ◌∙◌, arith}
+use Rattle.orders.specs.Contents.{contents_of, keys_of}
+use Rattle.orders.specs.Meaning.{outcome_of}
 use Rattle.ledger.specs.Own.{given, slot_in}
 use Rattle.ledger.specs.State.{slots_at, may_write}
-use Rattle.ledger.proofs.Writing.{comes_to, put_leaves, back_leaves, wrote, count_still, matched_still, seen_still, read_still}
+use Rattle.orders.proofs.Beside.{keys_few}
+use Rattle.ledger.proofs.Writing.{comes_to, slots_few, written_long, put_leaves, back_leaves, wrote, count_still, matched_still, seen_still, read_still}
 use Rattle.ledger.proofs.ledger.Ledger.write.Goals as goal
 use Rattle.ledger.proofs.ledger.Ledger.write.Goals.{in-Writes, in-Nothing}
 
@@ -12,11 +13,6 @@ invariant_of-self c =
     let may : may_write c.args.self.now c.args.place ≡ true = sym c.if-not-may_write.ensures.is in
     let still = count_still c.args.self.now c.args.place may c.finish.new.self c.finish.ensures.marks c.finish.ensures.done in
     record {
-      housed = c.args.self.now.housed;
-      sized = elim c.match-run_in.branch [
-        | in-Writes w ↦ ap (λ x. vec_len x.1.1.1.1.0) w.self-is ∙ w.put.ensures.len
-        | in-Nothing w ↦ ap (λ x. vec_len x.1.1.1.1.0) w.self-is ∙ w.put_back.ensures.len
-      ];
       ordered = c.args.self.now.ordered ∙ sym still;
       slotted = c.args.self.now.slotted ∙ sym still;
       noted = c.args.self.now.noted ∙ sym still;
@@ -27,23 +23,26 @@ invariant_of-self c =
       read = read_still c.args.self.now c.args.place may c.finish.new.self c.finish.ensures.marks c.finish.ensures.done;
     }
 
+pub given-read-requires : goal.given-read-requires
+given-read-requires c =
+    let may : may_write c.args.self.now c.args.place ≡ true = sym c.if-not-may_write.ensures.is in
+    omega (arith, ap length c.row.ensures, slots_few c.args.self.now c.args.place may c.order-order.result c.order-order.ensures)
+
 pub returns : goal.returns
 returns c =
     let may : may_write c.args.self.now c.args.place ≡ true = sym c.if-not-may_write.ensures.is in
-    let read : c.load.new.registers ≡ padded 32 (given (slots_at c.args.self.now c.args.place)) = c.load.ensures ∙ ap (λ vs. padded 32 (given vs)) c.row.ensures in
-    elim c.match-run_in.branch [
+    let vs = given (slots_at c.args.self.now c.args.place) in
+    let order = contents_of c.order-order.result in
+    let read : c.as_slice.result.now ≡ vs = c.as_slice.ensures ∙ c.given-read.ensures ∙ ap given c.row.ensures in
+    let o : outcome_of order vs ≡ c.run-outcome.result = ap (outcome_of order) (sym read) ∙ sym c.run-outcome.ensures in
+    wrote c.args.self.now _ c.args.place c.run-outcome.result may (comes_to c.args.self.now c.args.place may c.order-order.result c.order-order.ensures vs c.run-outcome.result o)
+    refl refl c.finish.ensures.marks c.finish.ensures.done refl refl
+    (elim c.match-outcome.branch [
       | in-Writes w ↦
-          let o = w.in-Writes.ensures (given (slots_at c.args.self.now c.args.place)) read in
-          wrote c.args.self.now _ c.args.place c.match-run_in.outcome may
-          (w.outcome-is ∙ comes_to c.args.self.now c.args.place may c.order-order.result c.order-order.ensures (given (slots_at c.args.self.now c.args.place)) (Writes c.run_in.new.written) o)
-          refl refl c.finish.ensures.marks c.finish.ensures.done refl refl
-          (put_leaves c.args.self.now c.args.place may c.order-order.result c.order-order.ensures w.writes.result.now c.run_in.new.written _ w.writes.ensures.is
-          (omega (arith, w.writes.ensures.few, c.run_in.array_long2)) o (λ k own. ap (λ x. slot_in (vec_items x.1.1.1.1.0) k) w.self-is ∙ w.put.ensures.put k own))
+          put_leaves c.args.self.now c.args.place may c.order-order.result c.order-order.ensures (keys_of w.write_set.result.now) w.in-Writes.written _ w.write_set.ensures
+          (omega (arith, keys_few w.write_set.result.now, written_long order vs w.in-Writes.written (o ∙ w.in-Writes.is))) (o ∙ w.in-Writes.is) (λ k own. ap (λ x. slot_in (vec_items x.1.1.1.1.0.own) k) w.self-is ∙ w.put.ensures k own)
       | in-Nothing w ↦
-          let o = w.in-Nothing.ensures (given (slots_at c.args.self.now c.args.place)) read in
-          wrote c.args.self.now _ c.args.place c.match-run_in.outcome may
-          (w.outcome-is ∙ comes_to c.args.self.now c.args.place may c.order-order.result c.order-order.ensures (given (slots_at c.args.self.now c.args.place)) Nothing o)
-          refl refl c.finish.ensures.marks c.finish.ensures.done refl refl
-          (back_leaves c.args.self.now c.args.place may c.order-order.result c.order-order.ensures w.writes-in-Nothing.result.now w.reads.result.now c.load.new.registers _
-          w.writes-in-Nothing.ensures.is w.reads.ensures.is read o (λ k own. ap (λ x. slot_in (vec_items x.1.1.1.1.0) k) w.self-is ∙ w.put_back.ensures.back k own))
-    ]
+          back_leaves c.args.self.now c.args.place may c.order-order.result c.order-order.ensures (keys_of w.write_set-in-Nothing.result.now) (keys_of w.read_set.result.now) w.as_slice-in-Nothing.result.now _
+          w.write_set-in-Nothing.ensures w.read_set.ensures (w.as_slice-in-Nothing.ensures ∙ c.given-read.ensures ∙ ap given c.row.ensures) (o ∙ w.in-Nothing.is)
+          (λ k own. ap (λ x. slot_in (vec_items x.1.1.1.1.0.own) k) w.self-is ∙ w.put_back.ensures k own)
+    ])

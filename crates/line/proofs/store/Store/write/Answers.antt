@@ -1,15 +1,19 @@
-use Rattle.std.proofs.Common.{drop, vec_items, sym, ◌∙◌, arith}
-use Rattle.std.proofs.lemmas.List.{at_drop_all}
-use Rattle.orders.specs.Transaction.{lookup}
-use Rattle.line.specs.Serial.{values_in}
+use Rattle.std.proofs.Common.{◌≡◌, true, length, vec_items, ◌∙◌, arith}
+use Rattle.std.proofs.lemmas.List.{length_push}
+use Rattle.std.proofs.lemmas.Slice.Zip.{zip_turn}
+use Rattle.orders.specs.Contents.{keys_of}
+use Rattle.orders.specs.Valid.{rising}
 use Rattle.line.proofs.Values.{write_more}
 use Rattle.line.proofs.store.Store.write.Goals as goal
 
-pub loop-i-preserved : goal.loop-i-preserved
-loop-i-preserved c k =
-    write_more c.args.keys.now c.args.values.now (vec_items c.loop-i.self.values) c.loop-i.i c.from.result c.loop-i-test.true (omega arith) c.from.ensures (omega arith) c.requires.rises k
-    ∙ c.loop-i.invariant k
-
-pub returns : goal.returns
-returns c k =
-    sym (at_drop_all (λ xs. lookup xs (drop c.loop-i.i c.args.values.now) k (values_in c.loop-i.self k)) c.args.keys.now c.loop-i.i c.loop-i-test.false) ∙ c.loop-i.invariant k
+pub loop-key-preserved : goal.loop-key-preserved
+loop-key-preserved c k =
+    let ks = keys_of c.args.keys.now in
+    let vs = c.args.values.now in
+    let xs = c.loop-key.yielded in
+    let turn = zip_turn ks vs xs c.into_iter-key-iterator.result c.loop-key.key-iterator c.next.new.self c.next.result (cc) (cc) c.loop-key.yielded_by
+    (c.in-Some.key, c.in-Some.value) c.in-Some.is c.next.ensures.steps in
+    let rises : rising 0 ks ≡ true = cc in
+    write_more ks vs (vec_items c.loop-key.self.values) (length xs) c.from.result c.in-Some.value.now turn.0 turn.1
+    (c.from.ensures ∙ turn.2 0) (turn.3 0) (omega arith) rises k _ (length_push xs (c.in-Some.key, c.in-Some.value))
+    ∙ c.loop-key.invariant k

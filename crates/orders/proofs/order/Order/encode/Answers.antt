@@ -8,9 +8,9 @@ use Rattle.orders.proofs.order.Order.encode.Goals as goal
 
 pub returns : goal.returns
 returns c =
-    let e : vec_items c.write_code.new.out ≡ encoded (contents_of c.args.self.now) =
-    three_parts (vec_items c.new-out.result) (vec_items c.write_keys.new.out) (vec_items c.write_keys-2.new.out) (vec_items c.write_code.new.out) _ _ _ c.new-out.ensures.items
-    (c.in_ok-write_keys.ensures ∙ ap (λ ks. vec_items c.new-out.result ++ counted two ks) c.reads.ensures.is)
-    (c.in_ok-write_keys-2.ensures ∙ ap (λ ks. vec_items c.write_keys.new.out ++ counted two ks) c.writes.ensures.is)
-    (c.in_ok-write_code.ensures ∙ ap (λ is. vec_items c.write_keys-2.new.out ++ counted instruction_bytes is) c.code.ensures.is) in
+    let e : vec_items c.write_list-3.new.out ≡ encoded (contents_of c.args.self.now) =
+    three_parts (vec_items c.new-out.result) (vec_items c.write_list.new.out) (vec_items c.write_list-2.new.out) (vec_items c.write_list-3.new.out) _ _ _ c.new-out.ensures.items
+    (c.in_ok-write_list.ensures ∙ ap (λ ks. vec_items c.new-out.result ++ counted two ks) c.reads.ensures.is)
+    (c.in_ok-write_list-2.ensures ∙ ap (λ ks. vec_items c.write_list.new.out ++ counted two ks) c.writes.ensures.is)
+    (c.in_ok-write_list-3.ensures ∙ ap (λ is. vec_items c.write_list-2.new.out ++ counted instruction_bytes is) c.code.ensures.is) in
     (e, ap decoded e ∙ decodes_all (contents_of c.args.self.now) (valid_order c.args.self.now))

@@ -10,11 +10,7 @@ invariant_of-self-2 g c =
           (pushed c.args.row.now refl c.in_ok-extend_from_slice.was c.extend_from_slice.ensures.items) (cc);
     }
 
-pub returns : goal.returns
-returns g c = record {
-  pushed =
-      pushed_rows c.args.self.now c.extend_from_slice.new.self c.push_reserved.new.self c.args.row.now
-      (pushed c.args.row.now refl c.in_ok-extend_from_slice.was c.extend_from_slice.ensures.items) (cc);
-  wanting = tt;
-  succeeds = λ _. refl;
-}
+pub returns-clause-pushed : goal.returns-clause-pushed
+returns-clause-pushed g c =
+    pushed_rows c.args.self.now c.extend_from_slice.new.self c.push_reserved.new.self c.args.row.now
+    (pushed c.args.row.now refl c.in_ok-extend_from_slice.was c.extend_from_slice.ensures.items) (cc)

@@ -1,20 +1,10 @@
-use Rattle.std.proofs.Common.{◌≡◌, ◌&&◌, [], ◌∷◌, ◌++◌, deque_items, filter, sym, ap, ◌∙◌, inl}
+use Rattle.std.proofs.Common.{◌≡◌, [], ◌∷◌, ◌++◌, deque_items, filter, ap, ◌∙◌, inl}
 use Rattle.std.proofs.lemmas.Result.{err_from_is_err_and}
 use Rattle.turns.specs.State.{count_of}
-use Rattle.shard.specs.Tasks.{has, distinct, live, task_at, tasks_at, listed}
-use Rattle.shard.proofs.Events.{listed_after, once_after, becomes, same_live, same_may, same_kept, change_order}
+use Rattle.shard.specs.Tasks.{live, task_at, tasks_at, listed}
+use Rattle.shard.proofs.Events.{listed_after, once_after, becomes, same_kept, change_order}
 use Rattle.shard.proofs.house.House.append.Goals as goal
 use Rattle.shard.proofs.house.House.append.Goals.{After-list}
-
-pub invariant_of-self-in-Break-branch-2 : goal.invariant_of-self-in-Break-branch-2
-invariant_of-self-in-Break-branch-2 c =
-    let s = c.args.self.now.ledger in
-    let s' = c.append.new.self in
-    let same = c.in_err-place.ensures.0 in
-    record {
-      once = ap distinct c.reserve.ensures.items ∙ c.args.self.now.once;
-      listed = λ t. (λ x. has t (c.reserve.ensures.items x) && same_live s s' same t x) ∙ c.args.self.now.listed t ∙ sym (same_may s s' same t);
-    }
 
 pub returns-in_err-place : goal.returns-in_err-place
 returns-in_err-place c =

@@ -1,8 +1,8 @@
-use Rattle.std.proofs.Common.{◌≡◌, [], ◌∷◌, ◌++◌, vec_items, deque_items, sym, refl, ap, ◌∙◌, inl}
+use Rattle.std.proofs.Common.{◌≡◌, [], ◌∷◌, ◌++◌, vec_items, deque_items, sym, refl, ap, ◌∙◌}
 use Rattle.std.proofs.lemmas.Result.{err_from_is_err_and}
 use Rattle.ledger.specs.Notes.{values_of}
 use Rattle.shard.specs.Tasks.{tasks_at, task_at, listed}
-use Rattle.shard.proofs.Events.{listed_after, once_after, becomes, change_look_writer, change_look_done, ends_look, woken_some}
+use Rattle.shard.proofs.Events.{listed_after, once_after, becomes, change_look_writer, change_look_done, ends_look}
 use Rattle.shard.proofs.house.House.look_in_place.Goals as goal
 use Rattle.shard.proofs.house.House.look_in_place.Goals.{After-list, After-list_all}
 
@@ -38,24 +38,13 @@ returns-then-touches c =
 pub returns-in_err-woken : goal.returns-in_err-woken
 returns-in_err-woken c =
     let p = err_from_is_err_and c.from_residual-in_err-woken.result c.from_residual-in_err-woken.ensures.1 in
-    rw (p.1, p.2) (record { same_ledger = refl; same_list = refl }, (sym c.if-not-may_look.ensures.is, inl c.in_err-woken.ensures.wanting))
-
-pub returns-in_err-reserve-2 : goal.returns-in_err-reserve-2
-returns-in_err-reserve-2 c =
-    let p = err_from_is_err_and c.from_residual-in_err-reserve-2.result c.from_residual-in_err-reserve-2.ensures.1 in
-    rw (p.1, p.2) (
-      record { same_ledger = refl; same_list = c.reserve-2.ensures.items },
-      (
-        sym c.if-not-may_look.ensures.is,
-        woken_some c.args.self.now c.args.place (vec_items c.in_ok-woken.woken) c.len.result (c.len.ensures ∙ c.in_ok-woken.woken.ok.0) c.in_ok-woken.ensures.woken c.in_err-reserve-2.ensures.full,
-      ),
-    )
+    rw (p.1, p.2, c.in_err-woken.ensures.woken.0) (record { same_ledger = refl; same_list = c.woken.ensures.items }, (sym c.if-not-may_look.ensures.is, c.in_err-woken.ensures.woken.1))
 
 -- those that it woke stand behind the others
 woken_behind : (c : After-list_all) → deque_items c.list_all.new.tasks ≡ deque_items c.args.self.now.tasks ++ tasks_at c.look-2.new.self (vec_items c.in_ok-woken.woken)
 woken_behind c =
-    c.list_all.ensures ∙ ap (λ is. deque_items c.reserve-2.new.self ++ tasks_at c.look-2.new.self is) c.as_slice.ensures.value
-    ∙ ap (λ ts. ts ++ tasks_at c.look-2.new.self (vec_items c.in_ok-woken.woken)) c.reserve-2.ensures.items
+    c.list_all.ensures ∙ ap (λ is. deque_items c.woken.new.tasks ++ tasks_at c.look-2.new.self is) c.as_slice.ensures.value
+    ∙ ap (λ ts. ts ++ tasks_at c.look-2.new.self (vec_items c.in_ok-woken.woken)) c.woken.ensures.items
 
 pub invariant_of-self-2 : goal.invariant_of-self-2
 invariant_of-self-2 c =
@@ -64,7 +53,7 @@ invariant_of-self-2 c =
     let raw = deque_items c.args.self.now.tasks in
     let raw' = deque_items c.list_all.new.tasks in
     let woken = vec_items c.in_ok-woken.woken in
-    let change = change_look_done s s' c.args.place (values_of c.in_ok-note-2.note) c.in_ok-note-2.ensures (sym c.if-touches.ensures) woken c.in_ok-woken.ensures.woken in
+    let change = change_look_done s s' c.args.place (values_of c.in_ok-note-2.note) c.in_ok-note-2.ensures (sym c.if-touches.ensures) woken c.in_ok-woken.ensures.woken.0 in
     record {
       once = once_after s s' raw raw' (tasks_at s' woken) change (woken_behind c) c.args.self.now.listed c.args.self.now.once;
       listed = listed_after s s' raw raw' (tasks_at s' woken) change (woken_behind c) c.args.self.now.listed;
@@ -79,5 +68,5 @@ returns c =
     let raw' = deque_items c.list_all.new.tasks in
     let woken = vec_items c.in_ok-woken.woken in
     let look = c.in_ok-note-2.ensures in
-    let change = change_look_done s s' c.args.place (values_of c.in_ok-note-2.note) look (sym c.if-touches.ensures) woken c.in_ok-woken.ensures.woken in
+    let change = change_look_done s s' c.args.place (values_of c.in_ok-note-2.note) look (sym c.if-touches.ensures) woken c.in_ok-woken.ensures.woken.0 in
     (look, becomes s s' raw raw' (tasks_at s' woken) change (woken_behind d) c.args.self.now.listed, (tasks_at s' woken, woken_behind d), ends_look s s' c.args.place (values_of c.in_ok-note-2.note) look)

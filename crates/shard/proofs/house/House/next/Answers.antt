@@ -1,12 +1,9 @@
-use Rattle.std.proofs.Common.{◌≡◌, false, [], ◌∷◌, drop, vec_items, deque_items, sym, refl, ap, ◌∙◌, inl, inr, append-nil}
+use Rattle.std.proofs.Common.{◌≡◌, false, [], ◌∷◌, drop, vec_items, deque_items, sym, refl, ap, ◌∙◌, inr, append-nil}
 use Rattle.std.proofs.lemmas.Result.{err_from_is_err_and}
 use Rattle.shard.specs.Tasks.{live, may_do, place_of}
-use Rattle.shard.proofs.Going.{front_is, no_front_no_tasks, first_may, refused_by_memory, distinct_without, listed_without, gone_once_done, still_first, took_live, took_stale}
+use Rattle.shard.proofs.Going.{front_is, first_may, refused_by_memory, distinct_without, listed_without, gone_once_done, still_first, took_live, took_stale}
 use Rattle.shard.proofs.house.House.next.Goals as goal
 use Rattle.shard.proofs.house.House.next.Goals.{then-is_live+in_ok-reserve+in_ok-perform, else-is_live}
-
-pub returns-in_default : goal.returns-in_default
-returns-in_default c = inl (no_front_no_tasks (deque_items c.args.self.now.tasks) c.front.result c.front.ensures.item (sym c.copied.ensures ∙ c.in_default.is), record { same_ledger = refl; same_list = refl }, refl)
 
 pub returns-in_err-perform : goal.returns-in_err-perform
 returns-in_err-perform c =

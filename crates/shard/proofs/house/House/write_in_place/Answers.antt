@@ -1,30 +1,19 @@
-use Rattle.std.proofs.Common.{◌≡◌, ◌++◌, vec_items, deque_items, sym, refl, ap, ◌∙◌, inl}
+use Rattle.std.proofs.Common.{◌≡◌, ◌++◌, vec_items, deque_items, sym, refl, ap, ◌∙◌}
 use Rattle.std.proofs.lemmas.Result.{err_from_is_err_and}
 use Rattle.shard.specs.Tasks.{tasks_at}
-use Rattle.shard.proofs.Events.{listed_after, once_after, becomes, change_write, ends_write, woken_some}
+use Rattle.shard.proofs.Events.{listed_after, once_after, becomes, change_write, ends_write}
 use Rattle.shard.proofs.house.House.write_in_place.Goals as goal
 use Rattle.shard.proofs.house.House.write_in_place.Goals.{After-list_all}
 
 pub returns-in_err-woken : goal.returns-in_err-woken
 returns-in_err-woken c =
     let p = err_from_is_err_and c.from_residual.result c.from_residual.ensures.1 in
-    rw (p.1, p.2) (record { same_ledger = refl; same_list = refl }, (sym c.if-not-may_write.ensures.is, inl c.in_err-woken.ensures.wanting))
-
-pub returns-in_err-reserve : goal.returns-in_err-reserve
-returns-in_err-reserve c =
-    let p = err_from_is_err_and c.from_residual-in_err-reserve.result c.from_residual-in_err-reserve.ensures.1 in
-    rw (p.1, p.2) (
-      record { same_ledger = refl; same_list = c.reserve.ensures.items },
-      (
-        sym c.if-not-may_write.ensures.is,
-        woken_some c.args.self.now c.args.place (vec_items c.in_ok-woken.woken) c.len.result (c.len.ensures ∙ c.in_ok-woken.woken.ok.0) c.in_ok-woken.ensures.woken c.in_err-reserve.ensures.full,
-      ),
-    )
+    rw (p.1, p.2, c.in_err-woken.ensures.woken.0) (record { same_ledger = refl; same_list = c.woken.ensures.items }, (sym c.if-not-may_write.ensures.is, c.in_err-woken.ensures.woken.1))
 
 extended : (c : After-list_all) → deque_items c.list_all.new.tasks ≡ deque_items c.args.self.now.tasks ++ tasks_at c.write.new.self (vec_items c.in_ok-woken.woken)
 extended c =
-    c.list_all.ensures ∙ ap (λ is. deque_items c.reserve.new.self ++ tasks_at c.write.new.self is) c.as_slice.ensures.value
-    ∙ ap (λ ts. ts ++ tasks_at c.write.new.self (vec_items c.in_ok-woken.woken)) c.reserve.ensures.items
+    c.list_all.ensures ∙ ap (λ is. deque_items c.woken.new.tasks ++ tasks_at c.write.new.self is) c.as_slice.ensures.value
+    ∙ ap (λ ts. ts ++ tasks_at c.write.new.self (vec_items c.in_ok-woken.woken)) c.woken.ensures.items
 
 pub invariant_of-self-2 : goal.invariant_of-self-2
 invariant_of-self-2 c =
@@ -33,7 +22,7 @@ invariant_of-self-2 c =
     let raw = deque_items c.args.self.now.tasks in
     let raw' = deque_items c.list_all.new.tasks in
     let woken = vec_items c.in_ok-woken.woken in
-    let change = change_write s s' c.args.place c.in_ok-outcome.outcome c.in_ok-outcome.ensures woken c.in_ok-woken.ensures.woken in
+    let change = change_write s s' c.args.place c.in_ok-outcome.outcome c.in_ok-outcome.ensures woken c.in_ok-woken.ensures.woken.0 in
     record {
       once = once_after s s' raw raw' (tasks_at s' woken) change (extended c) c.args.self.now.listed c.args.self.now.once;
       listed = listed_after s s' raw raw' (tasks_at s' woken) change (extended c) c.args.self.now.listed;
@@ -48,5 +37,5 @@ returns c =
     let raw' = deque_items c.list_all.new.tasks in
     let woken = vec_items c.in_ok-woken.woken in
     let wrote = c.in_ok-outcome.ensures in
-    let change = change_write s s' c.args.place c.in_ok-outcome.outcome wrote woken c.in_ok-woken.ensures.woken in
+    let change = change_write s s' c.args.place c.in_ok-outcome.outcome wrote woken c.in_ok-woken.ensures.woken.0 in
     (wrote, becomes s s' raw raw' (tasks_at s' woken) change (extended d) c.args.self.now.listed, (tasks_at s' woken, extended d), ends_write s s' c.args.place c.in_ok-outcome.outcome wrote)

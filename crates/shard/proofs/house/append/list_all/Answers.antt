@@ -1,5 +1,5 @@
 use Rattle.std.proofs.Common.{◌≡◌, ◌+◌, List, [], ◌++◌, get_or, drop, Some, None, deque_items, Option, sym, refl, ap, ◌∙◌, arith}
-use Rattle.std.proofs.lemmas.List.{append-nil, append_assoc, at_drop_more, at_drop_all}
+use Rattle.std.proofs.lemmas.List.{append_assoc, at_drop_more}
 use Rattle.shard.specs.Tasks.{task_at, tasks_at, listed}
 use Rattle.shard.specs.declared.task.Task.{Task}
 use Rattle.shard.proofs.house.append.list_all.Goals as goal
@@ -7,12 +7,6 @@ use Rattle.shard.proofs.house.append.list_all.Goals as goal
 listed_append : (o : Option Task) (ts : List Task) → listed o ts ≡ listed o [] ++ ts
 listed_append None ts = refl
 listed_append (Some t) ts = refl
-
-pub loop-place-init : goal.loop-place-init
-loop-place-init c = (refl, omega (arith, c.requires))
-
-pub list-requires : goal.list-requires
-list-requires c = omega (arith, c.loop-place.invariant.1, c.loop-place-test.true)
 
 pub loop-place-preserved : goal.loop-place-preserved
 loop-place-preserved c =
@@ -24,8 +18,3 @@ loop-place-preserved c =
           ∙ c.loop-place.invariant.0,
       omega (arith, c.list.ensures.len, c.list.ensures.capacity, c.loop-place.invariant.1, c.loop-place-test.true),
     )
-
-pub returns : goal.returns
-returns c =
-    sym (ap (λ ts. deque_items c.loop-place.tasks ++ ts) (at_drop_all (tasks_at c.args.ledger.now) c.args.places.now c.loop-place.place-index c.loop-place-test.false) ∙ append-nil (deque_items c.loop-place.tasks))
-    ∙ c.loop-place.invariant.0

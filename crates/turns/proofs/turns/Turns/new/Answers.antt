@@ -6,8 +6,7 @@ use Rattle.turns.proofs.turns.Turns.new.Goals as goal
 pub invariant_of-result : goal.invariant_of-result
 invariant_of-result c =
     record {
-      counted = c.new-2.ensures.len ∙ sym (ap length c.new.ensures);
-      few = omega (arith, c.new-2.ensures.len);
-      sized = c.in_ok-queues.ensures.len;
-      queued = λ q _. queued_at_first (λ i. get_or (rows_of c.new.result) i []) (λ i. get_or (vec_items c.new-2.result) i false) (vec_items c.in_ok-queues.queues) q (vec_len c.new-2.result) c.new-2.ensures.len c.in_ok-queues.ensures.empty;
+      counted = c.new-3.ensures.len ∙ sym (ap length c.new-2.ensures);
+      few = omega (arith, c.new-3.ensures.len);
+      queued = λ q _. queued_at_first (λ i. get_or (rows_of c.new-2.result) i []) (λ i. get_or (vec_items c.new-3.result) i false) (vec_items c.in_ok-queues.queues.by_key) q (vec_len c.new-3.result) c.new-3.ensures.len c.in_ok-queues.ensures;
     }

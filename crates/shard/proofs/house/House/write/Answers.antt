@@ -1,0 +1,5 @@
+use Rattle.shard.proofs.Handing.{handed_back}
+use Rattle.shard.proofs.house.House.write.Goals as goal
+
+pub returns : goal.returns
+returns c = handed_back c.write_in_place-came.new.self c.write_in_place-came.result c.hand_back.result _ _ _ c.hand_back.ensures c.write_in_place-came.ensures (λ v a. (a.0, a.1))
