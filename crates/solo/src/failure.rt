@@ -15,7 +15,7 @@ pub enum Reason {
 
 pub type Failure = program::Failure<Reason>;
 
-// No From: neither it nor the generic `Failure` is of this crate.
+// No From: neither the ledger's `Refusal` nor the generic `Failure` is of this crate.
 pub fn refused(refusal: Refusal) -> Failure {
     Failure::Own(Reason::Refused(refusal))
 }

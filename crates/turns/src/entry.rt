@@ -8,7 +8,7 @@ pub struct Mark {
     pub writes: bool,
 }
 
-// An undone order in the queue of a key.
+// An undone order in the queue of a key; `writes` is a bool as in `Mark`.
 #[derive(Clone, Copy, Debug, PartialEq, Eq)]
 pub struct Entry {
     pub place: u32,

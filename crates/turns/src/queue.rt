@@ -85,7 +85,8 @@ impl Queue {
             .position(|entry| entry.place == place)
     }
 
-    // Whether no entry before a place, but those of another place, keeps one waiting there that writes or only reads.
+    // Whether no entry before a place, but those of another place, keeps one waiting there that writes or only reads. The two places
+    // are two numbers, as in `Turns::is_clear`.
     pub fn lets_pass(&self, writes: bool, place: u32, but: u32) -> bool
         ensures { result ≡ clear_in place but writes (entries_in self.now) }
     {

@@ -18,7 +18,8 @@ impl Execution {
         })
     }
 
-    // The log goes on with these bytes, wherever they are cut. For want of memory nothing changes.
+    // The log goes on with these bytes, wherever they are cut. For want of memory nothing changes. (The benchmark in solo takes pieces
+    // likewise: what takes the orders and what is promised differ, and a function with a closure would be no shorter.)
     pub fn push(&mut self, piece: &[u8]) -> Result<(), AllocError>
         ensures executes { (bs : List ℕ) → Executes bs self.old → MatchResult result (λ _. Executes (bs ++ piece.now) self.new) (λ _. Executes bs self.new) }
         ensures wanting { OnErr result (Wanting self.old (length piece.now)) }

@@ -69,7 +69,7 @@ pub(super) fn list_all(ledger: &Ledger, places: &[u32], tasks: &mut VecDeque<Tas
     }
 }
 
-// Lists what may be done now for the order at a place: a look or, where it has looked, a write.
+// Lists what may be done now for the order at a place: a look or, where it has looked, a write. It takes no house, as `list_all`.
 pub(super) fn list(ledger: &Ledger, place: u32, tasks: &mut VecDeque<Task>)
     requires { deque_len tasks.old < deque_capacity tasks.old }
     ensures items { tasks.new.items ≡ tasks.old.items ++ listed (task_at ledger.now place) [] }

@@ -76,7 +76,8 @@ impl House {
     }
 }
 
-// The places whose orders wait for the one at a place and for no other, with room in a list for a task of each.
+// The places whose orders wait for the one at a place and for no other, with room in a list for a task of each. As a method of the
+// house it would have to say that the rest stays, and be longer.
 fn woken(
     ledger: &Ledger,
     heap: Global,
