@@ -1,5 +1,5 @@
 -- The keys of an order rise, whatever its bytes are.
-use Rattle.std.proofs.Common.{◌≡◌, ℕ, ◌≤◌, true, List, [], ◌∷◌, length, Some, None, Option, refl, ap, ◌∙◌, inl, inr, arith}
+use Rattle.std.proofs.Common.{◌≡◌, ℕ, true, List, [], ◌∷◌, length, Some, None, Option, refl, ap, ◌∙◌, inl, inr}
 use Rattle.std.proofs.lemmas.Bool.{cases_Bool, cond-true, cond-false}
 use Rattle.orders.specs.Codec.{Read, and_then, only, list_in, key_in, keys_in, code_in, ended, decoded}
 use Rattle.orders.specs.Contents.{Contents}

@@ -25,7 +25,6 @@ use Rattle.turns.specs.declared.turns.Turns.{Turns}
 use Rattle.ledger.specs.Own.{owns, marks_for, alike_marks, marked, slot_in, note_of, slot_of, known, given}
 use Rattle.ledger.specs.State.{contents_in, log_of, order_at, slots_at, looked_at, value_in, state_of, may_write, Wrote}
 use Rattle.ledger.specs.declared.ledger.Ledger.{Ledger}
-use Rattle.orders.proofs.Beside.{keys_few}
 use Rattle.ledger.proofs.Rising.{reads_rise}
 use Rattle.ledger.proofs.Ties.{at_log, marks_are, marked_within, own_reads_is, reads_is, writes_is, ready_to}
 
@@ -209,9 +208,6 @@ module _ (s : Ledger) (i : ℕ) (may : may_write s i ≡ true) where
 
     rises : rising 0 (order_at s i).reads ≡ true
     rises = reads_rise (get_or (rows_of s.orders) i [])
-
-    pub slots_few : length (slots_at s i) ≤ 16
-    slots_few = omega (arith, slots_long, length-map (slots_at s i) (λ v. unwrap_or v 0), ap length reads_of, keys_few r.reads)
 
     pub comes_to : (vs : List ℕ) (o : Outcome) → outcome_of (contents_of r) vs ≡ o → o ≡ (order_at s i).outcome vs
     comes_to vs o e = sym (comes_to_contents vs ∙ ap (λ c. outcome_of c vs) (sym is) ∙ e)

@@ -26,7 +26,7 @@ pub enum Failure<R> {
 
 impl<R: Drop> Failure<R> {
     // The same, said of the file at a path where it was said of none.
-    pub(crate) fn at(self, heap: Global, path: &str) -> Failure<R>
+    pub fn at(self, heap: Global, path: &str) -> Failure<R>
         ensures at { At path.now self result }
         ensures placed { Placed result }
     {

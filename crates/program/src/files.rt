@@ -1,10 +1,10 @@
 // Files that are read.
-ghost use Rattle.std.specs.Prelude.{◌<◌, OnOk, IfErr, length};
+ghost use Rattle.std.specs.Prelude.{◌<◌, OnOk, IfOk, IfErr, length, vec_len};
 ghost use Rattle.program.specs.Failures.{Names, Placed};
 ghost use Rattle.program.specs.Handing.{HandsOn};
 
 use crate::failure::Failure;
-use std::alloc::{AllocError, Global};
+use std::alloc::Global;
 use std::fs::File;
 use std::io::Read;
 use std::rt::Files;
@@ -29,27 +29,29 @@ pub fn feed<R: Files + AllocGlobal, E: Drop, F: FnMut(&[u8]) -> Result<(), Failu
     requires { F.IsAlwaysCallable take }
     ensures { IfErr result Placed }
 {
-    match File::open(rt, path) {
-        Ok(mut file) => by_pieces(rt.alloc(), &mut file, take),
-        Err(e) => Err(e.into()),
-    }
-    .map_err(|e| e.at(rt.alloc(), path))
+    let mut file = open(rt, path)?;
+    let mut room = room(rt.alloc())?;
+    pieces(&mut file, &mut room, take).map_err(|e| e.at(rt.alloc(), path))
 }
 
-// Hands on what a reader has left, by pieces.
-fn by_pieces<R: Read, E: From<io::Error> + From<AllocError>, F: FnMut(&[u8]) -> Result<(), E>>(
-    heap: Global,
-    reader: &mut R,
-    take: F,
-) -> Result<(), E>
-    requires { F.IsAlwaysCallable take }
-    ensures { OnOk result (HandsOn F.FnMut take (R.remaining reader.old)) }
+fn open<R: Files + AllocGlobal, E: Drop>(rt: &R, path: &str) -> Result<R::File, Failure<E>>
+    ensures { IfErr result Placed }
 {
-    let mut room = vec![in heap; 0; PIECE]?;
-    pieces(reader, &mut room, take)
+    File::open(rt, path).map_err(|e| Failure::from(e).at(rt.alloc(), path))
 }
 
-// The same, all through one room.
+// Room for a piece.
+fn room<E: Drop>(heap: Global) -> Result<Vec<u8>, Failure<E>>
+    ensures some { IfOk result (λ room. 0 < vec_len room) }
+    ensures placed { IfErr result Placed }
+{
+    match vec![in heap; 0; PIECE] {
+        Ok(room) => Ok(room),
+        Err(e) => Err(Failure::Memory(e)),
+    }
+}
+
+// Hands on what a reader has left, by pieces, all through one room.
 fn pieces<R: Read, E: From<io::Error>, F: FnMut(&[u8]) -> Result<(), E>>(
     reader: &mut R,
     room: &mut [u8],

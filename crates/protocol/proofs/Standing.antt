@@ -1,8 +1,8 @@
 -- Laws of what stands in a key by the log, and of the slot that a house has for it.
 use Rattle.std.proofs.Common.{◌≡◌, ℕ, zero, suc, ◌<◌, ◌≤◌, Bool, true, false, ◌&&◌, ◌||◌, eqb, List, [], ◌∷◌, map, length, take, filter, sym, refl, ap, ◌∙◌, inl, inr, arith}
 use Rattle.std.proofs.lemmas.List.{take_all, get_or_past}
-use Rattle.std.proofs.lemmas.Bool.{both_ways, and_parts, and_from, and_cases, or_cases, or_parts, or_left, or_right, cond-true, cond-false, cond_both, cases_lt, eqb-true, eq-eqb}
-use Rattle.orders.specs.Transaction.{Transaction, lookup, written, is_in, after, serial, idle}
+use Rattle.std.proofs.lemmas.Bool.{both_ways, and_parts, and_from, and_cases, or_cases, or_left, or_right, cond-true, cond-false, cond_both, cases_lt, eqb-true, eq-eqb}
+use Rattle.orders.specs.Transaction.{Transaction, lookup, is_in, after, serial, idle}
 use Rattle.orders.proofs.Transactions.{written_outside}
 use Rattle.protocol.specs.Log.{at, stood, some, reads_in, writes_in, own_reads, own_writes, reads, writes}
 use Rattle.protocol.specs.House.{Plan, Sound}

@@ -39,7 +39,8 @@ fn serial(rt: &HostRuntime, path: &str) -> Result<(), Failure> {
     let mut execution = Execution::new(rt.alloc())?;
     feed(rt, path, |piece| -> Result<(), Failure> {
         Ok(execution.push(piece)?)
-    })?;
+    })
+    .map_err(|e| e.at(rt.alloc(), path))?;
     print_values(rt, execution.store())?;
     print_report(rt, &execution)
 }

@@ -1,5 +1,5 @@
-use Rattle.protocol.proofs.Growth.{longer, base_agrees}
+use Rattle.protocol.proofs.Growth.{longer}
 use Rattle.protocol.proofs.the_log_may_grow.Goals as goal
 
-pub returns : goal.returns
-returns c = record { longer = longer; base = base_agrees }
+pub returns-clause-longer : goal.returns-clause-longer
+returns-clause-longer c = longer

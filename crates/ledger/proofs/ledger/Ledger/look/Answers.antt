@@ -4,11 +4,8 @@ use Rattle.orders.specs.Contents.{keys_of}
 use Rattle.rows.specs.Lists.{rows_of}
 use Rattle.ledger.specs.Notes.{values_of}
 use Rattle.ledger.specs.State.{may_look}
-use Rattle.ledger.proofs.Noting.{same_count, reads_in, looked_and_writes, looked_only, within_looked, row_is, note_is, wide_again, filled_again, matched_again, seen_again, read_again, looked_from}
+use Rattle.ledger.proofs.Noting.{same_count, reads_in, looked_and_writes, looked_only, row_is, note_is, wide_again, filled_again, matched_again, seen_again, read_again, looked_from}
 use Rattle.ledger.proofs.ledger.Ledger.look.Goals as goal
-
-pub index_mut-requires : goal.index_mut-requires
-index_mut-requires c = within_looked c.args.self.now c.args.place (sym c.if-not-may_look.ensures.is)
 
 pub invariant_of-self : goal.invariant_of-self
 invariant_of-self c =

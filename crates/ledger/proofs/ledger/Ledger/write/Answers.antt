@@ -1,32 +1,12 @@
-use Rattle.std.proofs.Common.{◌≡◌, true, length, vec_items, sym, refl, ap, ◌∙◌, arith}
+use Rattle.std.proofs.Common.{◌≡◌, true, vec_items, sym, refl, ap, ◌∙◌, arith}
 use Rattle.orders.specs.Contents.{contents_of, keys_of}
 use Rattle.orders.specs.Meaning.{outcome_of}
 use Rattle.ledger.specs.Own.{given, slot_in}
 use Rattle.ledger.specs.State.{slots_at, may_write}
 use Rattle.orders.proofs.Beside.{keys_few}
-use Rattle.ledger.proofs.Writing.{comes_to, slots_few, written_long, put_leaves, back_leaves, wrote, count_still, matched_still, seen_still, read_still}
+use Rattle.ledger.proofs.Writing.{comes_to, written_long, put_leaves, back_leaves, wrote}
 use Rattle.ledger.proofs.ledger.Ledger.write.Goals as goal
 use Rattle.ledger.proofs.ledger.Ledger.write.Goals.{in-Writes, in-Nothing}
-
-pub invariant_of-self : goal.invariant_of-self
-invariant_of-self c =
-    let may : may_write c.args.self.now c.args.place ≡ true = sym c.if-not-may_write.ensures.is in
-    let still = count_still c.args.self.now c.args.place may c.finish.new.self c.finish.ensures.marks c.finish.ensures.done in
-    record {
-      ordered = c.args.self.now.ordered ∙ sym still;
-      slotted = c.args.self.now.slotted ∙ sym still;
-      noted = c.args.self.now.noted ∙ sym still;
-      matched = matched_still c.args.self.now c.args.place may c.finish.new.self c.finish.ensures.marks c.finish.ensures.done;
-      wide = c.args.self.now.wide;
-      filled = c.args.self.now.filled;
-      seen = seen_still c.args.self.now c.args.place may c.finish.new.self c.finish.ensures.marks c.finish.ensures.done;
-      read = read_still c.args.self.now c.args.place may c.finish.new.self c.finish.ensures.marks c.finish.ensures.done;
-    }
-
-pub given-read-requires : goal.given-read-requires
-given-read-requires c =
-    let may : may_write c.args.self.now c.args.place ≡ true = sym c.if-not-may_write.ensures.is in
-    omega (arith, ap length c.row.ensures, slots_few c.args.self.now c.args.place may c.order-order.result c.order-order.ensures)
 
 pub returns : goal.returns
 returns c =

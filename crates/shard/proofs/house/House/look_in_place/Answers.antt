@@ -1,5 +1,4 @@
-use Rattle.std.proofs.Common.{◌≡◌, [], ◌∷◌, ◌++◌, vec_items, deque_items, sym, refl, ap, ◌∙◌}
-use Rattle.std.proofs.lemmas.Result.{err_from_is_err_and}
+use Rattle.std.proofs.Common.{◌≡◌, [], ◌∷◌, ◌++◌, vec_items, deque_items, sym, ap, ◌∙◌}
 use Rattle.ledger.specs.Notes.{values_of}
 use Rattle.shard.specs.Tasks.{tasks_at, task_at, listed}
 use Rattle.shard.proofs.Events.{listed_after, once_after, becomes, change_look_writer, change_look_done, ends_look}
@@ -34,11 +33,6 @@ returns-then-touches c =
     let look = c.in_ok-note.ensures in
     let change = change_look_writer s s' c.args.place (values_of c.in_ok-note.note) look (sym c.if-touches.ensures) in
     (look, becomes s s' raw raw' fresh change (extended d) c.args.self.now.listed, (fresh, extended d), ends_look s s' c.args.place (values_of c.in_ok-note.note) look)
-
-pub returns-in_err-woken : goal.returns-in_err-woken
-returns-in_err-woken c =
-    let p = err_from_is_err_and c.from_residual-in_err-woken.result c.from_residual-in_err-woken.ensures.1 in
-    rw (p.1, p.2, c.in_err-woken.ensures.woken.0) (record { same_ledger = refl; same_list = c.woken.ensures.items }, (sym c.if-not-may_look.ensures.is, c.in_err-woken.ensures.woken.1))
 
 -- those that it woke stand behind the others
 woken_behind : (c : After-list_all) → deque_items c.list_all.new.tasks ≡ deque_items c.args.self.now.tasks ++ tasks_at c.look-2.new.self (vec_items c.in_ok-woken.woken)

@@ -1,14 +1,8 @@
-use Rattle.std.proofs.Common.{◌≡◌, ◌++◌, vec_items, deque_items, sym, refl, ap, ◌∙◌}
-use Rattle.std.proofs.lemmas.Result.{err_from_is_err_and}
+use Rattle.std.proofs.Common.{◌≡◌, ◌++◌, vec_items, deque_items, ap, ◌∙◌}
 use Rattle.shard.specs.Tasks.{tasks_at}
 use Rattle.shard.proofs.Events.{listed_after, once_after, becomes, change_write, ends_write}
 use Rattle.shard.proofs.house.House.write_in_place.Goals as goal
 use Rattle.shard.proofs.house.House.write_in_place.Goals.{After-list_all}
-
-pub returns-in_err-woken : goal.returns-in_err-woken
-returns-in_err-woken c =
-    let p = err_from_is_err_and c.from_residual.result c.from_residual.ensures.1 in
-    rw (p.1, p.2, c.in_err-woken.ensures.woken.0) (record { same_ledger = refl; same_list = c.woken.ensures.items }, (sym c.if-not-may_write.ensures.is, c.in_err-woken.ensures.woken.1))
 
 extended : (c : After-list_all) → deque_items c.list_all.new.tasks ≡ deque_items c.args.self.now.tasks ++ tasks_at c.write.new.self (vec_items c.in_ok-woken.woken)
 extended c =
