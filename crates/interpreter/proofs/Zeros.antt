@@ -1,9 +1,12 @@
 -- Zeros behind the values change nothing.
-use Rattle.std.proofs.Common.{◌≡◌, ℕ, zero, suc, ◌≤◌, Bool, true, false, cond, eqb, List, [], ◌∷◌, ◌++◌, map, length, take, replicate, refl, ap, ◌∙◌, arith}
+use Rattle.std.proofs.Common.{◌≡◌, ℕ, zero, suc, ◌≤◌, Bool, true, false, cond, eqb, List, [], ◌∷◌, ◌++◌, map, length, take, replicate, sym, refl, ap, ◌∙◌, arith}
 use Rattle.std.proofs.lemmas.List.{length-append, length-replicate, length-take-le, take_at}
-use Rattle.orders.specs.Contents.{contents_of}
-use Rattle.orders.specs.Meaning.{padded, run_from}
+use Rattle.orders.specs.Contents.{contents_of, keys_of}
+use Rattle.orders.specs.Meaning.{padded, run_from, outcome_of}
 use Rattle.orders.specs.Transaction.{lookup}
+use Rattle.orders.specs.declared.instruction.Instruction.{Instruction}
+use Rattle.orders.specs.declared.order.KeySet.{KeySet}
+use Rattle.orders.specs.declared.order.Order.{Order}
 use Rattle.orders.proofs.Beside.{keys_few}
 use Rattle.interpreter.specs.Flow.{ZerosGiven}
 
@@ -36,3 +39,10 @@ zeros_given o vs =
     ap (λ f. padded 16 (map f (contents_of o).writes)) (λ i k. lookup_padded 32 32 (contents_of o).reads vs k (omega (arith, keys_few o.reads)) i) in
     ap (λ rs. run_from 0 (contents_of o).code rs (padded 16 (map (λ k. lookup (contents_of o).reads (padded 32 vs) k 0) (contents_of o).writes))) (padded_twice vs)
     ∙ ap (run_from 0 (contents_of o).code (padded 32 vs)) said
+
+-- so it does where it starts as an order does from registers that have the values and then zeros
+pub from_registers : (o : Order) (reads writes : KeySet) (code : List Instruction) (given rs ws vs : List ℕ) → given ≡ padded 32 vs → keys_of reads ≡ (contents_of o).reads → keys_of writes ≡ (contents_of o).writes
+    → rs ≡ padded 32 given → ws ≡ padded 16 (map (λ k. lookup (keys_of reads) given k 0) (keys_of writes)) → code ≡ (contents_of o).code → outcome_of (contents_of o) vs ≡ run_from 0 code rs ws
+from_registers o reads writes code given rs ws vs is r w registers written whole =
+    let said : ws ≡ padded 16 (map (λ k. lookup (contents_of o).reads given k 0) (contents_of o).writes) = written ∙ λ i. padded 16 (map (λ k. lookup (r i) given k 0) (w i)) in
+    sym (zeros_given o vs) ∙ ap (outcome_of (contents_of o)) (sym is) ∙ sym (λ i. run_from 0 (whole i) (registers i) (said i))

@@ -8,7 +8,7 @@ ghost use Rattle.orders.specs.Meaning.{padded, run_from, outcome_of};
 ghost use Rattle.orders.specs.Transaction.{lookup};
 ghost use Rattle.orders.specs.Valid.{fits, all_fit};
 ghost use Rattle.orders.specs.declared.instruction.Instruction.{Instruction as Step};
-ghost use Rattle.interpreter.specs.Flow.{ZerosGiven, goes_on, ended_by};
+ghost use Rattle.interpreter.specs.Flow.{ZerosGiven, goes_on, executed, ended_by};
 
 use orders::{Instruction, KeySet, Order, Outcome};
 
@@ -19,6 +19,13 @@ struct Interpreter {
     written: [u32; 16],
 }
 
+// How an order ends, where what it writes stands beside.
+#[derive(Clone, Copy, Debug, PartialEq, Eq)]
+pub enum Ending {
+    Writes,
+    Nothing,
+}
+
 // Runs the order on the values of its read set, in the order of its keys. A value that is not given is 0.
 pub fn run(order: &Order, values: &[u32]) -> Outcome
     ensures { result ≡ outcome_of (contents_of order.now) values.now }
@@ -27,6 +34,20 @@ pub fn run(order: &Order, values: &[u32]) -> Outcome
     match run.execute(order.code()) {
         Some(()) => Outcome::Writes(run.written),
         None => Outcome::Nothing,
+    }
+}
+
+// The same in place, from registers that have the values and then zeros.
+pub fn run_in(order: &Order, registers: &mut [u32; 32], written: &mut [u32; 16]) -> Ending
+    ensures { (vs : List ℕ) → registers.old ≡ padded 32 vs → outcome_of (contents_of order.now) vs ≡ ended_by result written.new }
+{
+    let mut place = Interpreter::new(order.read_set(), order.write_set(), registers);
+    let came = place.execute(order.code());
+    *registers = place.registers;
+    *written = place.written;
+    match came {
+        Some(()) => Ending::Writes,
+        None => Ending::Nothing,
     }
 }
 
@@ -44,16 +65,20 @@ impl Interpreter {
         ensures registers { result.registers ≡ padded 32 values.now }
         ensures written { result.written ≡ padded 16 (map (λ k. lookup (keys_of reads.now) values.now k 0) (keys_of writes.now)) }
     {
-        Interpreter {
-            registers: loaded(values),
-            written: unsaid(reads, writes, values),
-        }
+        // in place: arrays that are handed back by value are copied
+        let mut run = Interpreter {
+            registers: [0; 32],
+            written: [0; 16],
+        };
+        load(values, &mut run.registers);
+        unsaid(reads, writes, values, &mut run.written);
+        run
     }
 
     // Runs some instructions; none where one of them aborts.
     fn execute(&mut self, code: &[Instruction]) -> Option<()>
         requires { all_fit 16 code.now ≡ true }
-        ensures { run_from 0 code.now self.old.registers self.old.written ≡ ended_by result self.new.written }
+        ensures { run_from 0 code.now self.old.registers self.old.written ≡ executed result self.new.written }
     {
         let mut rest = code;
         while let Some((instruction, after)) = rest.split_first() {
@@ -111,22 +136,23 @@ fn multiplied(left: u32, right: u32) -> u32
 }
 
 // The registers at the start: the values read, then zeros.
-fn loaded(values: &[u32]) -> [u32; 32]
-    ensures { result ≡ padded 32 values.now }
+fn load(values: &[u32], registers: &mut [u32; 32])
+    ensures { registers.new ≡ padded 32 values.now }
 {
-    let mut registers = [0; 32];
-    let len = values.len().min(32);
-    registers[0..len].copy_from_slice(&values[0..len]);
-    registers
+    *registers = [0; 32];
+    // where nothing was read there is no call either
+    if !values.is_empty() {
+        let len = values.len().min(32);
+        registers[0..len].copy_from_slice(&values[0..len]);
+    }
 }
 
 // What is written to each key before an instruction says otherwise: what was read there, and 0 where it was not read.
-fn unsaid(reads: &KeySet, writes: &KeySet, values: &[u32]) -> [u32; 16]
-    ensures { result ≡ padded 16 (map (λ k. lookup (keys_of reads.now) values.now k 0) (keys_of writes.now)) }
+fn unsaid(reads: &KeySet, writes: &KeySet, values: &[u32], written: &mut [u32; 16])
+    ensures { written.new ≡ padded 16 (map (λ k. lookup (keys_of reads.now) values.now k 0) (keys_of writes.now)) }
 {
-    let mut written = [0; 16];
+    *written = [0; 16];
     for (i, key) in writes.as_slice().iter().enumerate() {
         written[i] = reads.value_of(values, *key).unwrap_or(0);
     }
-    written
 }

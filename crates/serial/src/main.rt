@@ -62,8 +62,10 @@ fn print_report(rt: &HostRuntime, execution: &Execution) -> Result<(), Failure> 
     let mut out = BufWriter::new(rt.alloc(), rt.stderr())?;
     let refusal = Refusal::Malformed;
     let number = refusal.number();
+    // spelled once, since there can be as many lines as there are orders
+    let refused = format!(in rt.alloc(); ": refused {number}, {refusal}\n")?;
     for place in execution.malformed() {
-        writeln!(out, "place {place}: refused {number}, {refusal}")?;
+        write!(out, "place {place}{refused}")?;
     }
     let rest = execution.rest().len();
     if rest > 0 {

@@ -56,13 +56,20 @@ fn solo(rt: &HostRuntime, house: &str, line: &str, script: &str) -> Result<(), F
     let house = new_house(rt, house)?;
     let log = read(rt, line)?;
     let script = read(rt, script)?;
-    let out = BufWriter::new(rt.alloc(), rt.stdout())?;
-    play(out, rt.alloc(), house, log.as_slice(), script.as_slice())?;
+    let mut out = BufWriter::new(rt.alloc(), rt.stdout())?;
+    play(
+        &mut out,
+        rt.alloc(),
+        house,
+        log.as_slice(),
+        script.as_slice(),
+    )?;
+    out.flush()?;
     Ok(())
 }
 
 fn new_house(rt: &HostRuntime, word: &str) -> Result<House, Failure> {
-    match number(word).and_then(|number| u8::try_from(number).ok()) {
+    match number(word.as_bytes()).and_then(|number| u8::try_from(number).ok()) {
         Some(number) if number < 16 => House::new(rt.alloc(), number).map_err(refused),
         _ => Err(Failure::Own(Reason::House)),
     }

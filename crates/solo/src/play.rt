@@ -11,16 +11,16 @@ use std::iter::Peekable;
 
 // Where the answers go, and what the house has had of the log. The house is no field: a look or a write takes it and hands it back.
 #[derive(Drop)]
-struct Player<'a, W> {
-    out: W,
+struct Player<'o, 'a, W> {
+    out: &'o mut W,
     // the orders that are still to come
     log: Peekable<Frames<'a>>,
     // those that the house has
     given: Vec<&'a [u8]>,
 }
 
-pub fn play<W: Write + Drop>(
-    out: W,
+pub fn play<W: Write>(
+    out: &mut W,
     heap: Global,
     house: House,
     log: &[u8],
@@ -41,10 +41,10 @@ pub fn play<W: Write + Drop>(
             None => writeln!(player.out, "line {number}: not understood")?,
         }
     }
-    player.out.flush()
+    Ok(())
 }
 
-impl<'a, W: Write> Player<'a, W> {
+impl<'o, 'a, W: Write> Player<'o, 'a, W> {
     fn obey(&mut self, mut house: House, command: Command) -> io::Result<House> {
         match command {
             Command::Look(place) => return self.look(house, place),

@@ -1,10 +1,8 @@
 // What a line of a script asks for.
-ghost use Rattle.std.specs.Prelude.{◌≡◌};
-ghost use Rattle.solo.specs.Number.{number_of};
+ghost use Rattle.std.specs.Prelude.{◌≡◌, true, false, MatchOption};
+ghost use Rattle.solo.specs.Number.{joins, joined, number_of};
 
 use ledger::Note;
-use std::str;
-use std::str::Split;
 
 #[derive(Clone, Copy, Debug, PartialEq, Eq)]
 pub enum Command {
@@ -23,21 +21,28 @@ pub enum Command {
 
 impl Command {
     // The command of a line, whose words stand one space apart; none where it is not understood: why is said to nobody, so no error.
+    // Words are bytes, as the line is: to see first that they are text cost a line of a few words more than reading it.
     pub fn parse(line: &[u8]) -> Option<Command> {
-        // each command is a text
-        let mut words = str::from_utf8(line).ok()?.split(' ');
+        let mut words = line.split(|byte| *byte == b' ');
         let command = match words.next()? {
-            "order" => Command::Order,
-            "look" => Command::Look(number(words.next()?)?),
-            "write" => Command::Write(number(words.next()?)?),
-            "told" => Command::Told {
+            b"order" => Command::Order,
+            b"look" => Command::Look(number(words.next()?)?),
+            b"write" => Command::Write(number(words.next()?)?),
+            b"told" => Command::Told {
                 from: u8::try_from(number(words.next()?)?).ok()?,
                 place: number(words.next()?)?,
-                values: values(&mut words)?,
+                // sixteen at most
+                values: words
+                    .by_ref()
+                    .take(16)
+                    .try_fold(Note::empty(), |mut values, word| {
+                        values.push(number(word)?);
+                        Some(values)
+                    })?,
             },
-            "ready" => Command::Ready,
-            "go" => Command::Go(number(words.next()?)?),
-            "show" => Command::Show(u16::try_from(number(words.next()?)?).ok()?),
+            b"ready" => Command::Ready,
+            b"go" => Command::Go(number(words.next()?)?),
+            b"show" => Command::Show(u16::try_from(number(words.next()?)?).ok()?),
             _ => return None,
         };
         match words.next() {
@@ -47,21 +52,26 @@ impl Command {
     }
 }
 
-// The numbers that the next words are, sixteen at most.
-fn values(words: &mut Split<'_, char>) -> Option<Note> {
-    words.take(16).try_fold(Note::empty(), |mut values, word| {
-        values.push(number(word)?);
-        Some(values)
-    })
-}
-
-// The number that a word is: digits alone, and below 4,294,967,296.
-pub fn number(word: &str) -> Option<u32>
+// The number that a word is: digits alone, and below 4,294,967,296. The library reads one from a text alone, and a sign too.
+pub fn number(word: &[u8]) -> Option<u32>
     ensures { result ≡ number_of word.now }
 {
-    // the library reads a sign too
-    if word.starts_with('+') {
+    if word.is_empty() {
         return None;
     }
-    word.parse().ok()
+    let mut number = 0;
+    for byte in word {
+        number = join(number, *byte)?;
+    }
+    Some(number)
+}
+
+// A number with one digit more behind it.
+fn join(number: u32, byte: u8) -> Option<u32>
+    ensures { MatchOption result (joins number byte ≡ false) (λ n. (joins number byte ≡ true) × (n ≡ joined number byte)) }
+{
+    if byte < b'0' || byte > b'9' {
+        return None;
+    }
+    u32::try_from(u64::from(number) * 10 + u64::from(byte - b'0')).ok()
 }

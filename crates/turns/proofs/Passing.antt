@@ -1,13 +1,14 @@
 -- Going from entry to entry and from mark to mark, and whether anybody stands in the way.
-use Rattle.std.proofs.Common.{◌≡◌, ℕ, suc, ◌+◌, ◌<◌, ◌≤◌, Bool, true, false, cond, not, ◌&&◌, ◌||◌, eqb, ltb, List, [], ◌∷◌, map, length, get_or, take, vec_items, Option, Some, None, Bor, sym, refl, ap, ◌∙◌, inl, inr, arith}
-use Rattle.std.specs.List.{list_all, prefix_len}
+use Rattle.std.proofs.Common.{◌≡◌, ℕ, ◌<◌, ◌≤◌, Bool, true, false, cond, not, ◌&&◌, ◌||◌, eqb, leb, ltb, true≢false, List, [], ◌∷◌, ◌++◌, map, length, get_or, vec_items, Option, Some, None, Bor, sym, refl, ap, ◌∙◌, inl, inr, arith}
+use Rattle.std.specs.List.{find, list_all}
+use Rattle.std.specs.Option.{option_map, unwrap_or}
 use Rattle.std.specs.Iterator.{Yields}
 use Rattle.std.specs.VecDeque.Iter.{deque_iter_rest, deque_iter_steps}
 use Rattle.std.specs.declared.collections.vec_deque.Iter.{Iter}
 use Rattle.std.proofs.lemmas.Iterator.{YieldsList}
 use Rattle.std.proofs.lemmas.Iterator.Consumers.{YieldsList-from_deque, YieldsList-turn, YieldsList-end}
 use Rattle.std.proofs.lemmas.List.{get_or_past, get_or-map}
-use Rattle.std.proofs.lemmas.Bool.{cases_lt}
+use Rattle.std.proofs.lemmas.Bool.{cases_lt, lt-ltb, le-ltb, lt-leb, le-leb}
 use Rattle.rows.specs.Lists.{rows_of}
 use Rattle.turns.specs.Marks.{slot, put, clear, ready}
 use Rattle.turns.specs.Queues.{clear_in}
@@ -20,22 +21,54 @@ use Rattle.turns.specs.declared.turns.Turns.{Turns}
 use Rattle.turns.proofs.Looking.{clear_none, clear_cons, clear_in_queue}
 use Rattle.turns.proofs.Alike.{same_from_alike}
 
--- the entries before a place, each of which lets one pass
+-- the first entry that decides whether one waiting is let pass: it stands at or beyond its place, or is in its way
+opposite : (a p : ℕ) → leb p a ≡ not (ltb a p)
+opposite a p =
+    elim (cases_lt a p) [
+      | inl l ↦ lt-leb p a l ∙ sym (ap not (lt-ltb a p l))
+      | inr l ↦ le-leb p a l ∙ sym (ap not (le-ltb a p l))
+    ]
+
 module _ (p b : ℕ) (w : Bool) where
-  abbrev passes : Entry → Bool
-  passes e = eqb e.place b || not (w || e.writes)
+  abbrev pub decides : Entry → Bool
+  decides e = leb p e.place || ((w || e.writes) && not (eqb e.place b))
 
-  abbrev before : Entry → Bool
-  before e = ltb e.place p
+  abbrev passes : Option Entry → List Entry → Bool
+  passes first more = unwrap_or (option_map (λ (e : Entry). leb p e.place) first) (clear_in p b w more)
 
-  pub clear_in_all : (es : List Entry) → list_all passes (take (prefix_len before es) es) ≡ clear_in p b w es
+  pub clear_in_nobody : (es : List Entry) → (0 < length es → ⊥) → clear_in p b w es ≡ true
   unfolding clear_in
-  clear_in_all [] = refl
-  clear_in_all (e ∷ es) = step (before e) (clear_in_all es)
+  clear_in_nobody [] n = refl
+  clear_in_nobody (e ∷ es) n = absurd (n (omega arith))
+
+  pub clear_in_front : (es : List Entry) (d : Entry) → 0 < length es → d ≡ get_or es 0 d → p ≤ d.place → clear_in p b w es ≡ true
+  unfolding clear_in
+  clear_in_front [] d l is h = absurd (omega arith)
+  clear_in_front (e ∷ es) d l is h =
+      let place : d.place ≡ e.place = ap (λ (x : Entry). x.place) is in
+      ap (λ c. cond c ((eqb e.place b || not (w || e.writes)) && clear_in p b w es) true) (le-ltb e.place p (omega (arith, h, place)))
+
+  clear_in_found : (es more : List Entry) → clear_in p b w (es ++ more) ≡ passes (find decides es) more
+  unfolding clear_in
+  clear_in_found [] more = refl
+  clear_in_found (e ∷ es) more = step (ltb e.place p) (leb p e.place) (eqb e.place b) (w || e.writes) (opposite e.place p) refl (clear_in_found es more)
     where
-      step : (c : Bool) → list_all passes (take (prefix_len before es) es) ≡ clear_in p b w es → list_all passes (take (cond c (1 + prefix_len before es) 0) (e ∷ es)) ≡ cond c (passes e && clear_in p b w es) true
-      step true rest = let next : 1 + prefix_len before es ≡ suc (prefix_len before es) = omega arith in ap (λ n. list_all passes (take n (e ∷ es))) next ∙ ap (λ a. passes e && a) rest
-      step false rest = refl
+      step : (l g o u : Bool) → g ≡ not l → leb p e.place ≡ g → clear_in p b w (es ++ more) ≡ passes (find decides es) more → cond l ((o || not u) && clear_in p b w (es ++ more)) true ≡ passes (cond (g || (u && not o)) (Some e) (find decides es)) more
+      step true true o u n is rest = absurd (true≢false n)
+      step true false true true n is rest = rest
+      step true false true false n is rest = rest
+      step true false false true n is rest = sym is
+      step true false false false n is rest = rest
+      step false true o u n is rest = sym is
+      step false false o u n is rest = absurd (true≢false (sym n))
+
+  pub clear_in_first : (first : Option (Bor Entry)) (es more : List Entry) → option_map (λ y. y.now) first ≡ find decides es
+      → clear_in p b w (es ++ more) ≡ unwrap_or (option_map (λ (y : Bor Entry). leb p y.now.place) first) (clear_in p b w more)
+  clear_in_first first es more is = clear_in_found es more ∙ ap (λ o. passes o more) (sym is) ∙ both first
+    where
+      both : (o : Option (Bor Entry)) → passes (option_map (λ y. y.now) o) more ≡ unwrap_or (option_map (λ (y : Bor Entry). leb p y.now.place) o) (clear_in p b w more)
+      both None = refl
+      both (Some y) = refl
 
 -- what the queue of a key holds
 pub queue_of_key : (t : Turns) (k : ℕ) (q : Queue) → slot k < 4096 → q ≡ get_or (vec_items t.queues.by_key) (slot k) q → entries_in q ≡ queue_at t k

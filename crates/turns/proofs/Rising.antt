@@ -16,18 +16,18 @@ rising_drop low (suc i) [] h = refl
 rising_drop low zero (x ∷ xs) h = and_from (leb 0 x) (rising (suc x) xs) (le-leb 0 x (omega arith)) (and_parts (leb low x) (rising (suc x) xs) h).1
 rising_drop low (suc i) (x ∷ xs) h = rising_drop (suc x) i xs (and_parts (leb low x) (rising (suc x) xs) h).1
 
-rising_past : (low i : ℕ) (xs : List ℕ) → length xs ≤ i → rising low (drop i xs) ≡ true
+pub rising_past : (low i : ℕ) (xs : List ℕ) → length xs ≤ i → rising low (drop i xs) ≡ true
 rising_past low i xs h = at_drop_all (rising low) xs i h
 
 -- those from i on are no lower than what stands at i
-rising_from : (low i x : ℕ) (xs : List ℕ) → rising 0 xs ≡ true → i < length xs → x ≡ get_or xs i x → low ≤ x → rising low (drop i xs) ≡ true
+pub rising_from : (low i x : ℕ) (xs : List ℕ) → rising 0 xs ≡ true → i < length xs → x ≡ get_or xs i x → low ≤ x → rising low (drop i xs) ≡ true
 rising_from low i x xs h within is l =
     let all : (leb 0 (get_or xs i x) && rising (suc (get_or xs i x)) (drop (i + 1) xs)) ≡ true = sym (at_drop_more (rising 0) xs i x within) ∙ rising_drop 0 i xs h in
     let at : rising low (drop i xs) ≡ (leb low (get_or xs i x) && rising (suc (get_or xs i x)) (drop (i + 1) xs)) = at_drop_more (rising low) xs i x within in
     at ∙ and_from (leb low (get_or xs i x)) (rising (suc (get_or xs i x)) (drop (i + 1) xs)) (le-leb low (get_or xs i x) (omega arith)) (and_parts (leb 0 (get_or xs i x)) (rising (suc (get_or xs i x)) (drop (i + 1) xs)) all).1
 
 -- a place between those below it and those above it
-rising_inserted : (low at p : ℕ) (xs : List ℕ) → rising low xs ≡ true → (at ≡ 0 → low ≤ p) → ((k : ℕ) → k + 1 ≡ at → get_or xs k 0 < p) → at ≤ length xs → rising (suc p) (drop at xs) ≡ true → rising low (insert xs at p) ≡ true
+pub rising_inserted : (low at p : ℕ) (xs : List ℕ) → rising low xs ≡ true → (at ≡ 0 → low ≤ p) → ((k : ℕ) → k + 1 ≡ at → get_or xs k 0 < p) → at ≤ length xs → rising (suc p) (drop at xs) ≡ true → rising low (insert xs at p) ≡ true
 rising_inserted low zero p xs h l below within above = and_from (leb low p) (rising (suc p) xs) (le-leb low p (l refl)) above
 rising_inserted low (suc n) p [] h l below within above = absurd (omega arith)
 rising_inserted low (suc n) p (x ∷ xs) h l below within above =
@@ -70,7 +70,7 @@ in_inserted x (suc n) p [] = refl
 in_inserted x (suc n) p (y ∷ ys) = ap (λ b. eqb x y || b) (in_inserted x n p ys) ∙ or_swap (eqb x y) (eqb x p) (is_in x ys)
 
 -- what stands in the list already
-in_already : (x i p d : ℕ) (xs : List ℕ) → i < length xs → p ≡ get_or xs i d → is_in x xs ≡ (eqb x p || is_in x xs)
+pub in_already : (x i p d : ℕ) (xs : List ℕ) → i < length xs → p ≡ get_or xs i d → is_in x xs ≡ (eqb x p || is_in x xs)
 in_already x i p d [] h is = absurd (omega arith)
 in_already x zero p d (y ∷ ys) h is = or_again (eqb x y) (is_in x ys) ∙ ap (λ z. eqb x z || (eqb x y || is_in x ys)) (sym is)
 in_already x (suc i) p d (y ∷ ys) h is = ap (λ b. eqb x y || b) (in_already x i p d ys (omega arith) is) ∙ or_swap (eqb x y) (eqb x p) (is_in x ys)

@@ -3,6 +3,7 @@
 --   queue q n          the queue of the key with number q: the entries of the undone ones of the first n orders, in their order
 --   alike              two queues have the same entries
 --   without i es       a queue without the entries of place i, looked for no further than that place
+--   without_from i k es   the same behind its first k entries, which stay
 --   clear_in p b w es  no entry before place p, but those of place b, keeps one waiting that writes (w) or only reads
 --   next_in i w es     the places that may go on once the order at i, which writes (w) or only reads, is done: those of the first entry
 --                      that is not its own and, where it writes, of the reads behind that, up to the first that writes
@@ -40,6 +41,11 @@ alike (d ∷ ds) (e ∷ es) = d.place == e.place && (both d.writes e.writes && a
 unfoldable pub without : ℕ → List Entry → List Entry
 without i [] = []
 without i (e ∷ es) = cond (nat_lt i e.place) (e ∷ es) (cond (e.place == i) (without i es) (e ∷ without i es))
+
+unfoldable pub without_from : (i k : ℕ) → List Entry → List Entry
+without_from i zero es = without i es
+without_from i (suc k) [] = []
+without_from i (suc k) (e ∷ es) = e ∷ without_from i k es
 
 unfoldable pub clear_in : (p b : ℕ) → Bool → List Entry → Bool
 clear_in p b w [] = true

@@ -1,10 +1,11 @@
 // The queue of a key.
-ghost use Rattle.std.specs.Prelude.{◌≡◌, ◌+◌, ◌<◌, ◌≤◌, [], ◌∷◌, ◌++◌, length, MatchOption, OnErr, OnOk};
+ghost use Rattle.std.specs.Prelude.{◌≡◌, ◌+◌, ◌<◌, ◌≤◌, List, [], ◌∷◌, ◌++◌, length, MatchOption, OnErr, OnOk};
+ghost use Rattle.std.specs.Option.{unwrap_or};
 ghost use Rattle.std.specs.VecDeque.{deque_len, deque_capacity};
 ghost use Rattle.std.specs.VecDeque.Iter.{deque_iter_rest};
 ghost use Rattle.std.specs.List.{remove};
 ghost use Rattle.turns.specs.Entries.{entries_in};
-ghost use Rattle.turns.specs.Queues.{without, clear_in};
+ghost use Rattle.turns.specs.Queues.{without, without_from, clear_in};
 
 use crate::entry::Entry;
 use std::alloc::{AllocError, Global};
@@ -53,17 +54,31 @@ impl Queue {
         self.entries.push_back_reserved(entry);
     }
 
-    // Takes out the entries of a place: two where the order reads and writes the key.
+    // Takes out the entries of a place: two where the order reads and writes the key. They stand at the front mostly, where no
+    // entry has to move.
     pub fn remove(&mut self, place: u32)
         ensures { entries_in self.new ≡ without place (entries_in self.old) }
     {
-        while let Some(at) = self.find(place) {
-            // at the front mostly, where no entry has to move
-            if at == 0 {
-                self.entries.pop_front();
-            } else {
-                self.take_out(at);
+        while let Some(entry) = self.entries.front() {
+            if entry.place > place {
+                return;
             }
+            if entry.place < place {
+                break;
+            }
+            self.entries.pop_front();
+        }
+        self.remove_behind(place);
+    }
+
+    // The same behind other entries; it goes through the queue once.
+    fn remove_behind(&mut self, place: u32)
+        ensures { entries_in self.new ≡ without place (entries_in self.old) }
+    {
+        let mut from = 0;
+        while let Some(at) = self.find(place, from) {
+            self.take_out(at);
+            from = at;
         }
     }
 
@@ -76,22 +91,44 @@ impl Queue {
         self.entries.remove(at);
     }
 
-    // Where the first entry of a place stands. Places rise, so it looks no further than that.
-    fn find(&self, place: u32) -> Option<usize>
-        ensures { MatchOption result (without place (entries_in self.now) ≡ entries_in self.now) (λ at. (at < length (entries_in self.now)) × (without place (remove (entries_in self.now) at) ≡ without place (entries_in self.now))) }
+    // Where the first entry of a place stands, from an index on. Places rise, so it looks no further than that.
+    fn find(&self, place: u32, from: usize) -> Option<usize>
+        requires { from ≤ length (entries_in self.now) }
+        ensures { MatchOption result (without_from place from (entries_in self.now) ≡ entries_in self.now) (λ at. (at < length (entries_in self.now)) × (without_from place at (remove (entries_in self.now) at) ≡ without_from place from (entries_in self.now))) }
     {
-        self.iter()
-            .take_while(|entry| entry.place <= place)
-            .position(|entry| entry.place == place)
+        let mut rest = self.entries.range(from..);
+        let at = from + rest.position(|entry| entry.place >= place)?;
+        let entry = self.entries.get(at)?;
+        (entry.place == place).then_some(at)
     }
 
     // Whether no entry before a place, but those of another place, keeps one waiting there that writes or only reads. The two places
-    // are two numbers, as in `Turns::is_clear`.
+    // are two numbers, as in `Turns::is_clear`. The ring's two parts are gone through one after the other: an iterator over both asks
+    // at each entry in which of them it is, which is felt where many read a key.
     pub fn lets_pass(&self, writes: bool, place: u32, but: u32) -> bool
         ensures { result ≡ clear_in place but writes (entries_in self.now) }
     {
-        self.iter()
-            .take_while(|entry| entry.place < place)
-            .all(|entry| entry.place == but || !(writes || entry.writes))
+        let Some(first) = self.entries.front() else {
+            return true;
+        };
+        // mostly it is the one at the front that asks
+        if first.place >= place {
+            return true;
+        }
+        let (front, back) = self.entries.as_slices();
+        match verdict(front, writes, place, but) {
+            Some(passes) => passes,
+            None => verdict(back, writes, place, but).unwrap_or(true),
+        }
     }
+}
+
+// Whether some entries let one pass, as in `lets_pass`; none where that is for the entries behind them to say.
+fn verdict(entries: &[Entry], writes: bool, place: u32, but: u32) -> Option<bool>
+    ensures { (more : List Entry) → clear_in place but writes (entries.now ++ more) ≡ unwrap_or result (clear_in place but writes more) }
+{
+    let first = entries.iter().find(|entry| {
+        entry.place >= place || ((writes || entry.writes) && entry.place != but)
+    })?;
+    Some(first.place >= place)
 }

@@ -131,6 +131,10 @@ where
     let [count, rest @ ..] = bytes else {
         return None;
     };
+    // before any item is read: a count alone refuses an order
+    if usize::from(*count) > N {
+        return None;
+    }
     let rest = read_items(reader, *count, rest, list);
     if rest.is_none() {
         list.clear();

@@ -62,14 +62,15 @@ impl Order {
     {
         let reads = KeySet::new(reads).ok_or(Refusal::Malformed)?;
         let writes = KeySet::new(writes).ok_or(Refusal::Malformed)?;
+        // first, so that no longer list is gone through
+        let instructions = Bounded::from_slice(code).ok_or(Refusal::Malformed)?;
         if !all_suit(code, writes.as_slice().len()) {
             return Err(Refusal::Malformed);
         }
-        let code = Bounded::from_slice(code).ok_or(Refusal::Malformed)?;
         Ok(Order {
             reads,
             writes,
-            code,
+            code: instructions,
         })
     }
 

@@ -4,8 +4,8 @@ use Rattle.turns.specs.Queues.{without}
 use Rattle.turns.proofs.queue.Queue.remove.Given as goal
 
 -- what was taken out is nothing that is to stay
-abbrev pub invariant-loop-at : goal.invariant-loop-at
-invariant-loop-at l = without l.place (entries_in l.self) ≡ without l.place (entries_in l.initial.self)
+abbrev pub invariant-loop-entry : goal.invariant-loop-entry
+invariant-loop-entry l = without l.place (entries_in l.self) ≡ without l.place (entries_in l.initial.self)
 
-abbrev pub decreases-loop-at : goal.decreases-loop-at
-decreases-loop-at l = length (entries_in l.self)
+abbrev pub decreases-loop-entry : goal.decreases-loop-entry
+decreases-loop-entry l = length (entries_in l.self)

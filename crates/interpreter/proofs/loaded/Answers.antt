@@ -1,5 +1,0 @@
-use Rattle.interpreter.proofs.Values.{padded_copied}
-use Rattle.interpreter.proofs.loaded.Goals as goal
-
-pub returns : goal.returns
-returns c = padded_copied 32 c.min-len.result c.args.values.now c.copy_from_slice.new.self c.min-len.ensures c.copy_from_slice.ensures.after
