@@ -1,14 +1,13 @@
 -- Going from entry to entry and from mark to mark, and whether anybody stands in the way.
-use Rattle.std.proofs.Common.{◌≡◌, ℕ, ◌<◌, ◌≤◌, Bool, true, false, cond, not, ◌&&◌, ◌||◌, eqb, leb, ltb, true≢false, List, [], ◌∷◌, ◌++◌, map, length, get_or, vec_items, Option, Some, None, Bor, sym, refl, ap, ◌∙◌, inl, inr, arith}
-use Rattle.std.specs.List.{find, list_all}
-use Rattle.std.specs.Option.{option_map, unwrap_or}
+use Rattle.std.proofs.Common.{◌≡◌, ℕ, suc, ◌+◌, ◌<◌, ◌≤◌, Bool, true, false, cond, not, ◌&&◌, ◌||◌, eqb, leb, ltb, true≢false, List, [], ◌∷◌, ◌++◌, map, length, get_or, drop, vec_items, Option, Some, None, Bor, sym, refl, ap, ◌∙◌, inl, inr, arith}
+use Rattle.std.specs.List.{list_all, position_or_len}
 use Rattle.std.specs.Iterator.{Yields}
 use Rattle.std.specs.VecDeque.Iter.{deque_iter_rest, deque_iter_steps}
 use Rattle.std.specs.declared.collections.vec_deque.Iter.{Iter}
 use Rattle.std.proofs.lemmas.Iterator.{YieldsList}
 use Rattle.std.proofs.lemmas.Iterator.Consumers.{YieldsList-from_deque, YieldsList-turn, YieldsList-end}
-use Rattle.std.proofs.lemmas.List.{get_or_past, get_or-map}
-use Rattle.std.proofs.lemmas.Bool.{cases_lt, lt-ltb, le-ltb, lt-leb, le-leb}
+use Rattle.std.proofs.lemmas.List.{get_or_past, get_or-map, drop_all, drop_more}
+use Rattle.std.proofs.lemmas.Bool.{cases_lt, lt-ltb, le-ltb, lt-leb, le-leb, eq-eqb, ne_eqb}
 use Rattle.rows.specs.Lists.{rows_of}
 use Rattle.turns.specs.Marks.{slot, put, clear, ready}
 use Rattle.turns.specs.Queues.{clear_in}
@@ -21,7 +20,6 @@ use Rattle.turns.specs.declared.turns.Turns.{Turns}
 use Rattle.turns.proofs.Looking.{clear_none, clear_cons, clear_in_queue}
 use Rattle.turns.proofs.Alike.{same_from_alike}
 
--- the first entry that decides whether one waiting is let pass: it stands at or beyond its place, or is in its way
 opposite : (a p : ℕ) → leb p a ≡ not (ltb a p)
 opposite a p =
     elim (cases_lt a p) [
@@ -29,46 +27,91 @@ opposite a p =
       | inr l ↦ le-leb p a l ∙ sym (ap not (le-ltb a p l))
     ]
 
+-- whether the entries let one pass that waits: those that are no matter are passed over
 module _ (p b : ℕ) (w : Bool) where
-  abbrev pub decides : Entry → Bool
-  decides e = leb p e.place || ((w || e.writes) && not (eqb e.place b))
+  abbrev pub counts : Entry → Bool
+  counts e = (w || e.writes) || leb p e.place
 
-  abbrev passes : Option Entry → List Entry → Bool
-  passes first more = unwrap_or (option_map (λ (e : Entry). leb p e.place) first) (clear_in p b w more)
+  -- how many are passed over before the first that may matter
+  abbrev ahead : List Entry → ℕ
+  ahead es = position_or_len counts es
 
   pub clear_in_nobody : (es : List Entry) → (0 < length es → ⊥) → clear_in p b w es ≡ true
   unfolding clear_in
   clear_in_nobody [] n = refl
   clear_in_nobody (e ∷ es) n = absurd (n (omega arith))
 
+  module _ (e : Entry) (es : List Entry) where
+    clear_head : clear_in p b w (e ∷ es) ≡ cond (ltb e.place p) ((eqb e.place b || not (w || e.writes)) && clear_in p b w es) true
+    unfolding clear_in
+    clear_head = refl
+
+    clear_beyond : p ≤ e.place → clear_in p b w (e ∷ es) ≡ true
+    clear_beyond h = clear_head ∙ ap (λ c. cond c ((eqb e.place b || not (w || e.writes)) && clear_in p b w es) true) (le-ltb e.place p h)
+
+    clear_before : e.place < p → clear_in p b w (e ∷ es) ≡ ((eqb e.place b || not (w || e.writes)) && clear_in p b w es)
+    clear_before h = clear_head ∙ ap (λ c. cond c ((eqb e.place b || not (w || e.writes)) && clear_in p b w es) true) (lt-ltb e.place p h)
+
+    clear_but : e.place < p → e.place ≡ b → clear_in p b w (e ∷ es) ≡ clear_in p b w es
+    clear_but h is = clear_before h ∙ ap (λ c. (c || not (w || e.writes)) && clear_in p b w es) (eq-eqb e.place b is)
+
+    -- one that counts, and stands before the place, is in the way
+    clear_not : e.place < p → (e.place ≡ b → ⊥) → counts e ≡ true → clear_in p b w (e ∷ es) ≡ false
+    clear_not h n c =
+        let writes : (w || e.writes) ≡ true = known (w || e.writes) (ap (λ g. (w || e.writes) || g) (sym (lt-leb p e.place h)) ∙ c) in
+        clear_before h ∙ ap (λ o. (o || not (w || e.writes)) && clear_in p b w es) (ne_eqb e.place b n) ∙ ap (λ u. not u && clear_in p b w es) writes
+      where
+        known : (u : Bool) → (u || false) ≡ true → u ≡ true
+        known true k = refl
+        known false k = k
+
+    clear_over : counts e ≡ false → clear_in p b w (e ∷ es) ≡ clear_in p b w es
+    clear_over c =
+        clear_head ∙ step (w || e.writes) (leb p e.place) (ltb e.place p) (eqb e.place b) (opposite e.place p) c
+      where
+        step : (u g l o : Bool) → g ≡ not l → (u || g) ≡ false → cond l ((o || not u) && clear_in p b w es) true ≡ clear_in p b w es
+        step true g l o n k = absurd (true≢false k)
+        step false true l o n k = absurd (true≢false k)
+        step false false true true n k = refl
+        step false false true false n k = refl
+        step false false false o n k = absurd (true≢false (sym n))
+
   pub clear_in_front : (es : List Entry) (d : Entry) → 0 < length es → d ≡ get_or es 0 d → p ≤ d.place → clear_in p b w es ≡ true
-  unfolding clear_in
   clear_in_front [] d l is h = absurd (omega arith)
-  clear_in_front (e ∷ es) d l is h =
-      let place : d.place ≡ e.place = ap (λ (x : Entry). x.place) is in
-      ap (λ c. cond c ((eqb e.place b || not (w || e.writes)) && clear_in p b w es) true) (le-ltb e.place p (omega (arith, h, place)))
+  clear_in_front (e ∷ es) d l is h = let place : d.place ≡ e.place = ap (λ (x : Entry). x.place) is in clear_beyond e es (omega (arith, h, place))
 
-  clear_in_found : (es more : List Entry) → clear_in p b w (es ++ more) ≡ passes (find decides es) more
-  unfolding clear_in
-  clear_in_found [] more = refl
-  clear_in_found (e ∷ es) more = step (ltb e.place p) (leb p e.place) (eqb e.place b) (w || e.writes) (opposite e.place p) refl (clear_in_found es more)
+  pub passed_over : (es more : List Entry) → clear_in p b w (es ++ more) ≡ clear_in p b w (drop (ahead es) es ++ more)
+  passed_over [] more = refl
+  passed_over (e ∷ es) more = step (counts e) refl (passed_over es more)
     where
-      step : (l g o u : Bool) → g ≡ not l → leb p e.place ≡ g → clear_in p b w (es ++ more) ≡ passes (find decides es) more → cond l ((o || not u) && clear_in p b w (es ++ more)) true ≡ passes (cond (g || (u && not o)) (Some e) (find decides es)) more
-      step true true o u n is rest = absurd (true≢false n)
-      step true false true true n is rest = rest
-      step true false true false n is rest = rest
-      step true false false true n is rest = sym is
-      step true false false false n is rest = rest
-      step false true o u n is rest = sym is
-      step false false o u n is rest = absurd (true≢false (sym n))
+      step : (c : Bool) → counts e ≡ c → clear_in p b w (es ++ more) ≡ clear_in p b w (drop (ahead es) es ++ more) → clear_in p b w (e ∷ (es ++ more)) ≡ clear_in p b w (drop (cond (not c) (1 + ahead es) 0) (e ∷ es) ++ more)
+      step true is rest = refl
+      step false is rest = let next : suc (ahead es) ≡ 1 + ahead es = omega arith in clear_over e (es ++ more) is ∙ rest ∙ ap (λ n. clear_in p b w (drop n (e ∷ es) ++ more)) next
 
-  pub clear_in_first : (first : Option (Bor Entry)) (es more : List Entry) → option_map (λ y. y.now) first ≡ find decides es
-      → clear_in p b w (es ++ more) ≡ unwrap_or (option_map (λ (y : Bor Entry). leb p y.now.place) first) (clear_in p b w more)
-  clear_in_first first es more is = clear_in_found es more ∙ ap (λ o. passes o more) (sym is) ∙ both first
+  ahead_counts : (es : List Entry) (d : Entry) → ahead es < length es → counts (get_or es (ahead es) d) ≡ true
+  ahead_counts [] d l = absurd (omega arith)
+  ahead_counts (e ∷ es) d l = step (counts e) refl l (ahead_counts es d)
     where
-      both : (o : Option (Bor Entry)) → passes (option_map (λ y. y.now) o) more ≡ unwrap_or (option_map (λ (y : Bor Entry). leb p y.now.place) o) (clear_in p b w more)
-      both None = refl
-      both (Some y) = refl
+      step : (c : Bool) → counts e ≡ c → cond (not c) (1 + ahead es) 0 < length (e ∷ es) → (ahead es < length es → counts (get_or es (ahead es) d) ≡ true) → counts (get_or (e ∷ es) (cond (not c) (1 + ahead es) 0) d) ≡ true
+      step true is m rest = is
+      step false is m rest = let next : 1 + ahead es ≡ suc (ahead es) = omega arith in ap (λ n. counts (get_or (e ∷ es) n d)) next ∙ rest (omega arith)
+
+  -- what is left from the entry on at which a search stopped
+  module _ (es more : List Entry) (at : ℕ) (d : Entry) (is : at ≡ ahead es) (l : at < length es) where
+    from_there : clear_in p b w (es ++ more) ≡ clear_in p b w (get_or es at d ∷ (drop (at + 1) es ++ more))
+    from_there = passed_over es more ∙ ap (λ n. clear_in p b w (drop n es ++ more)) (sym is) ∙ ap (λ xs. clear_in p b w (xs ++ more)) (drop_more es at d l)
+
+    pub stops_beyond : p ≤ (get_or es at d).place → clear_in p b w (es ++ more) ≡ true
+    stops_beyond h = from_there ∙ clear_beyond (get_or es at d) (drop (at + 1) es ++ more) h
+
+    pub stops_before : (get_or es at d).place < p → ((get_or es at d).place ≡ b → ⊥) → clear_in p b w (es ++ more) ≡ false
+    stops_before h n = from_there ∙ clear_not (get_or es at d) (drop (at + 1) es ++ more) h n (ap (λ k. counts (get_or es k d)) is ∙ ahead_counts es d (omega (arith, is)))
+
+    pub goes_on_behind : (get_or es at d).place < p → (get_or es at d).place ≡ b → clear_in p b w (es ++ more) ≡ clear_in p b w (drop (at + 1) es ++ more)
+    goes_on_behind h o = from_there ∙ clear_but (get_or es at d) (drop (at + 1) es ++ more) h o
+
+  pub passed_all : (es more : List Entry) → length es ≤ ahead es → clear_in p b w (es ++ more) ≡ clear_in p b w more
+  passed_all es more h = passed_over es more ∙ ap (λ xs. clear_in p b w (xs ++ more)) (drop_all (ahead es) es h)
 
 -- what the queue of a key holds
 pub queue_of_key : (t : Turns) (k : ℕ) (q : Queue) → slot k < 4096 → q ≡ get_or (vec_items t.queues.by_key) (slot k) q → entries_in q ≡ queue_at t k

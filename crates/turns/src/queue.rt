@@ -123,12 +123,24 @@ impl Queue {
     }
 }
 
-// Whether some entries let one pass, as in `lets_pass`; none where that is for the entries behind them to say.
+// Whether some entries let one pass, as in `lets_pass`; none where that is for the entries behind them to say. What is asked of each
+// entry is no more than whether it is one to be looked at: the place but for which is asked stands there once or twice.
 fn verdict(entries: &[Entry], writes: bool, place: u32, but: u32) -> Option<bool>
     ensures { (more : List Entry) → clear_in place but writes (entries.now ++ more) ≡ unwrap_or result (clear_in place but writes more) }
 {
-    let first = entries.iter().find(|entry| {
-        entry.place >= place || ((writes || entry.writes) && entry.place != but)
-    })?;
-    Some(first.place >= place)
+    let mut rest = entries;
+    while let Some(at) = rest
+        .iter()
+        .position(|entry| (writes || entry.writes) || entry.place >= place)
+    {
+        let entry = &rest[at];
+        if entry.place >= place {
+            return Some(true);
+        }
+        if entry.place != but {
+            return Some(false);
+        }
+        rest = &rest[at + 1..];
+    }
+    None
 }
