@@ -1,5 +1,5 @@
 // The list and its calls.
-ghost use Rattle.std.specs.Prelude.{⊤, ◌≡◌, ◌<◌, ◌≤◌, ◌↔◌, [], ◌∷◌, ◌++◌, length, IsSome, IfSome, OnSome, IfNone};
+ghost use Rattle.std.specs.Prelude.{⊤, ◌≡◌, ◌<◌, ◌≤◌, ◌↔◌, [], ◌∷◌, ◌++◌, length, slice_set, IsSome, IfSome, OnSome, IfNone};
 
 use std::alloc::AllocError;
 
@@ -67,6 +67,36 @@ impl<T: Copy, const N: usize> Bounded<T, N> {
         }
         self.items[len] = item;
         self.len = len + 1;
+        Some(())
+    }
+
+    // An item at a place of the room, behind the items too; none where there is no such place. For who says once by `set_len`
+    // how many items there are: `push` says it for each.
+    pub fn write_at(&mut self, place: usize, item: T) -> Option<()>
+        ensures variant { IsSome result ↔ (place < N) }
+        ensures some { OnSome result (self.new.items ≡ slice_set self.old.items place item) }
+        ensures none { IfNone result (self.new.items ≡ self.old.items) }
+        ensures len { self.new.len ≡ self.old.len }
+        ensures places { length self.old.items ≡ N }
+    {
+        if place >= N {
+            return None;
+        }
+        self.items[place] = item;
+        Some(())
+    }
+
+    // So many items, with what the room holds; none where it has not so many places, and then the list stays as it was.
+    pub fn set_len(&mut self, count: usize) -> Option<()>
+        ensures variant { IsSome result ↔ (count ≤ N) }
+        ensures some { OnSome result (self.new.len ≡ count) }
+        ensures none { IfNone result (self.new.len ≡ self.old.len) }
+        ensures room { self.new.items ≡ self.old.items }
+    {
+        if count > N {
+            return None;
+        }
+        self.len = count;
         Some(())
     }
 

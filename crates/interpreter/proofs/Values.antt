@@ -1,7 +1,9 @@
 -- Lists of values filled up with zeros.
-use Rattle.std.proofs.Common.{◌≡◌, ℕ, suc, ◌+◌, ◌-◌, ◌<◌, ◌≤◌, min, List, [], ◌∷◌, ◌++◌, map, length, get_or, take, drop, set, replicate, sym, ap, ◌∙◌, arith, rules}
+use Rattle.std.proofs.Common.{◌≡◌, ℕ, zero, suc, ◌+◌, ◌-◌, ◌<◌, ◌≤◌, min, List, [], ◌∷◌, ◌++◌, map, length, get_or, take, drop, set, replicate, sym, refl, ap, ◌∙◌, arith, rules}
 use Rattle.std.proofs.lemmas.List.{same_lists, places, set_at, length-map, length-take-le, map_more, take-map, drop-replicate, append_assoc}
 use Rattle.orders.specs.Meaning.{padded}
+use Rattle.orders.specs.Transaction.{lookup}
+use Rattle.orders.proofs.Beside.{beside_none}
 
 padded_parts : (n m : ℕ) (xs : List ℕ) → m ≡ min (length xs) n → padded n xs ≡ take m xs ++ replicate (n - m) 0
 padded_parts n m xs e = same_lists _ _ (search (rules, places)) (λ k d h. grind (arith, places))
@@ -29,3 +31,10 @@ module _ (f : ℕ → ℕ) (n i : ℕ) (ks vs : List ℕ) (filled : vs ≡ map f
 
   pub filled_all : i ≡ length ks → i ≤ n → vs ≡ padded n (map f ks)
   filled_all all few = filled ∙ ap (λ xs. xs ++ replicate (n - i) 0) (sym (take-map f i ks)) ∙ sym (padded_parts n i (map f ks) (simp length-map (omega arith)))
+
+-- where nothing was read all is written as 0
+pub zeros_unread : (n m : ℕ) (reads ks : List ℕ) → n ≤ m → take n (map (λ k. lookup reads [] k 0) ks ++ replicate m 0) ≡ replicate n 0
+zeros_unread zero m reads ks h = refl
+zeros_unread (suc n) zero reads ks h = absurd (omega arith)
+zeros_unread (suc n) (suc m) reads [] h = ap (λ xs. 0 ∷ xs) (zeros_unread n m reads [] (omega arith))
+zeros_unread (suc n) (suc m) reads (k ∷ ks) h = ap (λ x. x ∷ take n (map (λ j. lookup reads [] j 0) ks ++ replicate (suc m) 0)) (beside_none k 0 reads) ∙ ap (λ xs. 0 ∷ xs) (zeros_unread n (suc m) reads ks (omega arith))

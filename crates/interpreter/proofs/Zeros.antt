@@ -7,7 +7,7 @@ use Rattle.orders.specs.Transaction.{lookup}
 use Rattle.orders.specs.declared.instruction.Instruction.{Instruction}
 use Rattle.orders.specs.declared.order.KeySet.{KeySet}
 use Rattle.orders.specs.declared.order.Order.{Order}
-use Rattle.orders.proofs.Beside.{keys_few}
+use Rattle.orders.proofs.Beside.{keys_few, beside_none}
 use Rattle.interpreter.specs.Flow.{ZerosGiven}
 
 -- values filled up with zeros have the same value beside each key
@@ -15,12 +15,8 @@ lookup_padded : (n m : ℕ) (ks vs : List ℕ) (k : ℕ) → length ks ≤ n →
 lookup_padded n m [] vs k h = refl
 lookup_padded zero m (x ∷ ks) vs k h = absurd (omega arith)
 lookup_padded (suc n) zero (x ∷ ks) [] k h = refl
-lookup_padded (suc n) (suc m) (x ∷ ks) [] k h = ap (cond (eqb k x) 0) (lookup_padded n m ks [] k (omega arith) ∙ none ks) ∙ same (eqb k x)
+lookup_padded (suc n) (suc m) (x ∷ ks) [] k h = ap (cond (eqb k x) 0) (lookup_padded n m ks [] k (omega arith) ∙ beside_none k 0 ks) ∙ same (eqb k x)
   where
-    none : (js : List ℕ) → lookup js [] k 0 ≡ 0
-    none [] = refl
-    none (j ∷ js) = refl
-
     same : (b : Bool) → ◌≡◌ {A = ℕ} (cond b 0 0) 0
     same true = refl
     same false = refl

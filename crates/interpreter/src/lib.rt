@@ -152,7 +152,12 @@ fn unsaid(reads: &KeySet, writes: &KeySet, values: &[u32], written: &mut [u32; 1
     ensures { written.new ≡ padded 16 (map (λ k. lookup (keys_of reads.now) values.now k 0) (keys_of writes.now)) }
 {
     *written = [0; 16];
+    // where nothing was read there is nothing to look for
+    if values.is_empty() {
+        return;
+    }
+    let mut read = reads.cursor(values);
     for (i, key) in writes.as_slice().iter().enumerate() {
-        written[i] = reads.value_of(values, *key).unwrap_or(0);
+        written[i] = read.seek(*key).unwrap_or(0);
     }
 }

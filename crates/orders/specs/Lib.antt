@@ -3,6 +3,7 @@ pub mod Contents
 pub mod Codec
 pub mod Laws
 pub mod Transaction
+pub mod Seeking
 pub mod Effect
 pub mod Meaning
 pub mod Refusals

@@ -7,6 +7,6 @@ mod outcome;
 mod refusal;
 
 pub use instruction::Instruction;
-pub use order::{KeySet, Order};
+pub use order::{Cursor, KeySet, Order};
 pub use outcome::Outcome;
 pub use refusal::Refusal;

@@ -11,6 +11,8 @@ mod decode;
 mod encode;
 mod parts;
 
+pub use beside::Cursor;
+
 // At most sixteen keys, each above the one before. Values stand beside them in slices of their own, in the same order: they come
 // from elsewhere, and are lent.
 #[derive(Clone, Copy, Debug, PartialEq, Eq)]

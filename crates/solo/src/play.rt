@@ -1,4 +1,6 @@
 // Plays a script on a house. A line of the script gets a line of answer, but for empty ones.
+ghost use Rattle.std.specs.Prelude.{◌<◌, ◌≤◌, length};
+
 use crate::script::Command;
 use ledger::{Note, Refusal};
 use line::Frames;
@@ -32,16 +34,28 @@ pub fn play<W: Write>(
         given: Vec::new(heap),
     };
     let mut house = house;
-    for (number, line) in (1u64..).zip(script.split(|byte| *byte == b'\n')) {
-        if line.is_empty() {
-            continue;
-        }
-        match Command::parse(line) {
+    let mut number: u64 = 1;
+    let mut rest = script;
+    // breaks are passed over in one go: there can be as many empty lines as the script has bytes
+    while let Some(start) = rest.iter().position(|byte| *byte != b'\n') {
+        number += start as u64;
+        let end = line_end(rest, start);
+        match Command::parse(&rest[start..end]) {
             Some(command) => house = player.obey(house, command)?,
             None => writeln!(player.out, "line {number}: not understood")?,
         }
+        rest = &rest[end..];
     }
     Ok(())
+}
+
+// Where the line ends that has a byte at a place.
+fn line_end(text: &[u8], place: usize) -> usize
+    requires { place < length text.now }
+    ensures { (place < result) × (result ≤ length text.now) }
+{
+    let breaks = text[place + 1..].iter().position(|byte| *byte == b'\n');
+    breaks.map_or(text.len(), |more| place + 1 + more)
 }
 
 impl<'o, 'a, W: Write> Player<'o, 'a, W> {

@@ -131,10 +131,6 @@ where
     let [count, rest @ ..] = bytes else {
         return None;
     };
-    // before any item is read: a count alone refuses an order
-    if usize::from(*count) > N {
-        return None;
-    }
     let rest = read_items(reader, *count, rest, list);
     if rest.is_none() {
         list.clear();
@@ -142,7 +138,7 @@ where
     rest
 }
 
-// Reads so many items into an empty list: the bytes that follow; none where there are more than N.
+// Reads so many items: the bytes that follow; none where there are more than N.
 fn read_items<'a, R: Reader, const N: usize>(
     reader: &R,
     count: u8,
@@ -151,15 +147,21 @@ fn read_items<'a, R: Reader, const N: usize>(
 ) -> Option<&'a [u8]>
 where
     R::Item: Copy,
-    requires { items_of list.old ≡ [] }
     ensures { option_map (λ rest. (items_of list.new, rest.now)) result ≡ list_in N (R.reads reader.now) (count ∷ bytes.now) }
 {
+    let len = usize::from(count);
+    // before any item is read: a count alone refuses an order
+    if len > N {
+        return None;
+    }
     let mut rest = bytes;
-    for _ in 0..count {
+    // not by `push`: where the length is not written for each, several keys are read at once
+    for i in 0..len {
         let (item, after) = reader.read(rest)?;
-        list.push(item)?;
+        list.write_at(i, item)?;
         rest = after;
     }
+    list.set_len(len)?;
     Some(rest)
 }
 

@@ -1,11 +1,7 @@
-use Rattle.std.proofs.Common.{◌≡◌, ◌-◌, length}
-use Rattle.bounded.specs.Items.{items_of}
+use Rattle.std.proofs.Common.{◌≡◌, ◌-◌, take}
 use Rattle.orders.specs.Codec.{many, prepend}
 use Rattle.orders.proofs.order.decode.read_items.Given as goal
 
 -- the items read so far, with those still to be read, are what the whole is
-abbrev pub invariant-loop : goal.invariant-loop
-invariant-loop g l = record {
-  counted : length (items_of l.list) ≡ l.counter;
-  whole : prepend (items_of l.list) (many (g.R.Reader.reads l.reader) (l.count - l.counter) l.rest) ≡ many (g.R.Reader.reads l.reader) l.count l.bytes;
-}
+abbrev pub invariant-loop-i : goal.invariant-loop-i
+invariant-loop-i g l = prepend (take l.i l.list.items) (many (g.R.Reader.reads l.reader) (l.len - l.i) l.rest) ≡ many (g.R.Reader.reads l.reader) l.len l.bytes
