@@ -31,7 +31,7 @@ loop-i-preserved c =
       still = λ k other w h.
           let up = rising_next 0 c.loop-i.i ks c.args.writes.now.rises (omega arith) in
           let above : get_or ks (suc c.loop-i.i) 0 ≤ k = subst (λ n. get_or ks n 0 ≤ k) next h in
-          c.seek.ensures.above k other (omega (arith, key)) ∙ c.loop-i.invariant.still k other within (omega arith);
+          c.seek.ensures.kept k other (omega (arith, key)) ∙ c.loop-i.invariant.still k other within (omega arith);
     }
 
 pub returns : goal.returns

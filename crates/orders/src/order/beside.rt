@@ -1,5 +1,5 @@
 // Values that stand beside the keys of a set.
-ghost use Rattle.std.specs.Prelude.{◌≡◌, ◌<◌, ℕ, true, unwrap_or};
+ghost use Rattle.std.specs.Prelude.{◌≡◌, ◌<◌, ◌≤◌, ℕ, true, unwrap_or};
 ghost use Rattle.orders.specs.Contents.{keys_of};
 ghost use Rattle.orders.specs.Transaction.{lookup};
 ghost use Rattle.orders.specs.Valid.{rising};
@@ -42,10 +42,11 @@ impl KeySet {
 impl<'a> Cursor<'a> {
     ghost use Rattle.orders.specs.Seeking.{value_in};
 
-    // The value beside a key; none where the key is not there, has no value or was passed over. Then only keys above it are there.
+    // The value that is still beside a key; none where there is none. Then those of lower keys are passed over, and no other.
     pub fn seek(&mut self, key: u16) -> Option<u32>
         ensures value { (other : ℕ) → unwrap_or result other ≡ value_in self.old key other }
-        ensures above { (k other : ℕ) → key < k → value_in self.new k other ≡ value_in self.old k other }
+        ensures passed { (k other : ℕ) → k < key → value_in self.new k other ≡ other }
+        ensures kept { (k other : ℕ) → key ≤ k → value_in self.new k other ≡ value_in self.old k other }
     {
         let mut place = self.place;
         while place < self.keys.len() && self.keys[place] < key {

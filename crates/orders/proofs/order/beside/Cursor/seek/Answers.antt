@@ -23,6 +23,22 @@ returns-in-Some-clause-value c other =
     let value : unwrap_or c.copied.result other ≡ get_or vs c.loop-place.place other = grind (gets, rules) in
     value ∙ sym (here c.args.key other c.loop-place.place ks vs within found) ∙ c.loop-place.invariant c.args.key other (omega arith)
 
+pub returns-in-Some-clause-passed : goal.returns-in-Some-clause-passed
+returns-in-Some-clause-passed c k other h =
+    let ks = c.args.self.now.keys.now in
+    let within : c.loop-place.place < length ks = grind (gets, rules, arith) in
+    let found : get_or ks c.loop-place.place 0 ≡ c.args.key = grind (gets, rules) in
+    below k other 0 c.loop-place.place ks c.args.self.now.values.now c.args.self.now.rises within (omega (arith, found))
+
+pub returns-in_default-clause-passed : goal.returns-in_default-clause-passed
+returns-in_default-clause-passed c k other h =
+    let ks = c.args.self.now.keys.now in
+    let within : c.loop-place.place < length ks = grind (gets, rules, arith) in
+    elim c.loop-place-test.branch [
+      | then-loop-place-test+else-self-place w ↦ below k other 0 c.loop-place.place ks c.args.self.now.values.now c.args.self.now.rises within (omega (arith, w.if-self-place.false))
+      | else-loop-place-test w ↦ absurd (omega (arith, w.loop-place-test.false, within))
+    ]
+
 pub returns-in_default-clause-value : goal.returns-in_default-clause-value
 returns-in_default-clause-value c other =
     let ks = c.args.self.now.keys.now in
